@@ -18,7 +18,7 @@ digit_by d line = bit_and (line / 2 ^ d.shift) d.mask
 pub record IsDigit (s : Config) (field : Field) (d : Digit) : Type 0 where
   pub same : (line : ℕ) → digit_by d line ≡ digit_of s field s.fields line
 
--- so does that of each field
+-- the value of each field stands at its digit, in each line's number
 pub record IsDigits (s : Config) (digits : Digits) : Type 0 where
   pub channel : IsDigit s Channel digits.channel
   pub rank : IsDigit s Rank digits.rank

@@ -148,10 +148,6 @@ pub any_ok : {T E : Type 0} {A : Type 0} (r : Result T E) → A → OnOk r A
 any_ok (Ok x) a = a
 any_ok (Err e) a = tt
 
-pub when_ok : {T E : Type 0} {A : Type 0} (r : Result T E) → OnOk r A → IsOk r → A
-when_ok (Ok x) a q = a
-when_ok (Err e) a q = absurd cc
-
 pub err_with : {T E : Type 0} (r : Result T E) (P : E → Type 0) (e : E) → IfErr r P → IsErrAnd r (λ f. e ≡ f) → P e
 err_with (Ok x) P e p q = absurd q
 err_with (Err f) P e p q = rw q p

@@ -4,7 +4,8 @@ use Rattle.page.specs.Document.{IsDocument, WritesDocument}
 use Rattle.sim_base.specs.declared.fault.Fault.{Fault}
 use Rattle.sim_base.specs.declared.fault.Fault.TheVariants.{Memory, Write}
 use Rattle.statistics.specs.Values.{RunStats}
-use Rattle.whole_files.specs.Files.{Held, SameFiles, IsWriteFault}
+use Rattle.whole_files.specs.Files.{Held, SameFiles}
+use Rattle.sim_base.specs.Faults.{IsWriteFault}
 use Rattle.whole_files.specs.WholeFile.{IsWhole, IsUnwritten}
 use Rattle.answers.specs.Refused.{IsReady, IsAnswerFault}
 use Rattle.answers.specs.Requests.{AreRequestsRefused}

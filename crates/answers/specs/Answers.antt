@@ -68,7 +68,8 @@ rank_words ranks rank = if nat_lt 1 ranks then codes " rank " ++ decimal rank el
 abbrev pub place_line : ℕ → Place → List ℕ
 place_line ranks place =
     codes "channel " ++ decimal place.channel ++ rank_words ranks place.rank ++ codes " group " ++ decimal place.group
-    ++ codes " bank " ++ decimal place.bank ++ codes " row " ++ decimal place.row ++ codes " column " ++ decimal place.column ++ codes "\n"
+    ++ codes " bank " ++ decimal place.bank ++ codes " row " ++ decimal place.row ++ codes " column "
+    ++ decimal place.column ++ codes "\n"
 
 -- the place of an address was printed
 pub record IsMapped (config : List ℕ) (address : ℕ) (held : Held) (is_printed : List ℕ → Type 0) : Type 0 where

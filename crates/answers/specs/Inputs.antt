@@ -2,7 +2,7 @@
 -- a set of files says of itself, `files.old` is the set before a call, and `P.Write` is what a stream says of itself. A
 -- fact about what files hold is claimed where the set tells.
 --     Prints stream old new text      a stream has got this text
---     rows_in requests, text_of document, paths_of paths, path_of path      what stands behind references and in vectors
+--     rows_in requests, text_of document, texts_of paths, path_of path      what stands behind references and in vectors
 --     Checks, Maps, Shows, ShowsBanks, Compares set files .. printed      an answer was printed
 --     MakesPage set old new ..      a page is in its place
 --     CanCheck, CanMap, CanShow, CanPage, CanCompare set files ..      what it is made of can be read, and has no fault
@@ -41,6 +41,7 @@ use Rattle.answers.specs.declared.described.RunRecord.{RunRecord}
 use Rattle.answers.specs.declared.folder.RunFolder.{RunFolder}
 use Rattle.answers.specs.declared.pages.Page.{Page}
 use Rattle.answers.specs.declared.tables.RunTables.{RunTables}
+use Rattle.sim_base.specs.Texts.{texts_of}
 
 -- ---- what stands behind references and in vectors
 
@@ -55,10 +56,6 @@ text_of document = option_map (λ d. d.bytes.items) document
 -- a path, where one is named
 abbrev pub path_of : Option (Bor (List ℕ)) → Option (List ℕ)
 path_of path = option_map (λ p. p.now) path
-
--- paths, one after the other
-abbrev pub paths_of : List (Bor (List ℕ)) → List (List ℕ)
-paths_of paths = map (λ p. p.now) paths
 
 -- the files of the statistics in folders
 abbrev pub stats_paths : List (Bor (List ℕ)) → List (List ℕ)
@@ -98,7 +95,8 @@ OpensOne set old new path = set.tells → set.opened new ≡ set.opened old ++ p
 
 -- a file is not in its place, and nothing is left of it
 abbrev pub LeavesUnwritten : {S O : Type 0} → Files S O → S → S → List ℕ → Type 0
-LeavesUnwritten set old new file = set.tells → IsUnwritten file (set.held old) (set.held new) (set.opened old) (set.opened new)
+LeavesUnwritten set old new file =
+    set.tells → IsUnwritten file (set.held old) (set.held new) (set.opened old) (set.opened new)
 
 -- ---- texts that are read
 
@@ -152,11 +150,13 @@ CanCheck set files config commands = IsReady set.tells (set.held files) (config 
 
 -- why a table of commands gets no verdict
 abbrev pub BarsCheck : {S O : Type 0} → Files S O → S → List ℕ → List ℕ → Fault → Type 0
-BarsCheck set files config commands fault = IsInputFault set.tells (set.held files) (config ∷ commands ∷ []) IsTableFault fault
+BarsCheck set files config commands fault =
+    IsInputFault set.tells (set.held files) (config ∷ commands ∷ []) IsTableFault fault
 
 -- why no verdict is printed
 abbrev pub RefusesCheck : {S O : Type 0} → Files S O → S → List ℕ → List ℕ → Fault → Type 0
-RefusesCheck set files config commands fault = IsAnswerFault set.tells (set.held files) (config ∷ commands ∷ []) IsTableFault IsRightTable fault
+RefusesCheck set files config commands fault =
+    IsAnswerFault set.tells (set.held files) (config ∷ commands ∷ []) IsTableFault IsRightTable fault
 
 -- ---- map
 
@@ -183,11 +183,13 @@ RefusesMap set files config fault = IsAnswerFault set.tells (set.held files) (co
 -- ---- requests
 
 -- these are the requests of a run, from the file of their table; none where there is none
-abbrev pub ReadsRequests : {S O : Type 0} → Files S O → S → List ℕ → RunStats → Option (Vec RequestTimes Global) → Type 0
+abbrev pub ReadsRequests : {S O : Type 0} → Files S O → S → List ℕ → RunStats → Option (Vec RequestTimes Global)
+    → Type 0
 ReadsRequests set files path stats found = set.tells → AreRequestsAt (set.held files path) stats (rows_in found)
 
 -- these are the requests of a run, from its folder; none where that has no table of them
-abbrev pub FindsRequests : {S O : Type 0} → Files S O → S → List ℕ → RunStats → Option (Vec RequestTimes Global) → Type 0
+abbrev pub FindsRequests : {S O : Type 0} → Files S O → S → List ℕ → RunStats → Option (Vec RequestTimes Global)
+    → Type 0
 FindsRequests set files dir stats found = ReadsRequests set files (requests_path dir) stats found
 
 -- why the file of a table of requests gives none of a run
@@ -204,7 +206,8 @@ FindsSomeRequests set files dir stats = set.tells → HoldsSomeRequests (set.hel
 
 -- a screen has got what there is to say of requests
 abbrev pub GetsRequests : RunStats → Options → Option (Vec RequestTimes Global) → String Global → String Global → Type 0
-GetsRequests stats options requests old new = AddsRequests stats options (rows_in requests) (string_bytes old) (string_bytes new)
+GetsRequests stats options requests old new =
+    AddsRequests stats options (rows_in requests) (string_bytes old) (string_bytes new)
 
 -- ---- show
 
@@ -223,7 +226,8 @@ CanShow set files config path run =
 
 -- why it is refused
 abbrev pub BarsShow : {S O : Type 0} → Files S O → S → Option (Bor (List ℕ)) → List ℕ → Fault → Type 0
-BarsShow set files config path fault = IsInputFault set.tells (set.held files) (with_config (path_of config) (path ∷ [])) IsShowFault fault
+BarsShow set files config path fault =
+    IsInputFault set.tells (set.held files) (with_config (path_of config) (path ∷ [])) IsShowFault fault
 
 -- both of a folder
 abbrev pub CanShowIn : {S O : Type 0} → Files S O → S → RunFolder → RunRecord → Type 0
@@ -238,11 +242,13 @@ IsScreenOf run options requests text = IsRunScreen run.stats options run.config 
 
 -- the screen of the run in a folder, with what there is to say of its requests
 abbrev pub IsScreenIn : {S O : Type 0} → Files S O → S → List ℕ → RunRecord → Options → String Global → Type 0
-IsScreenIn set files dir run options text = set.tells → IsScreenAt (set.held files (requests_path dir)) run.stats options run.config (string_bytes text)
+IsScreenIn set files dir run options text =
+    set.tells → IsScreenAt (set.held files (requests_path dir)) run.stats options run.config (string_bytes text)
 
 -- the screen of the run in a folder was printed
 abbrev pub Shows : {S O : Type 0} → Files S O → S → RunFolder → Options → (List ℕ → Type 0) → Type 0
-Shows set files folder options printed = set.tells → IsShown folder.dir.now (path_of folder.config) options (set.held files) printed
+Shows set files folder options printed =
+    set.tells → IsShown folder.dir.now (path_of folder.config) options (set.held files) printed
 
 -- why no screen of a run is printed
 abbrev pub RefusesShow : {S O : Type 0} → Files S O → S → RunFolder → Fault → Type 0
@@ -254,16 +260,19 @@ RefusesShow set files folder fault =
 
 -- the tables of a run, from their files
 abbrev pub AreTablesOf : {S O : Type 0} → Files S O → S → List ℕ → List ℕ → RunTables → Type 0
-AreTablesOf set files stats commands found = set.tells → AreTablesAt stats commands (set.held files) found.run.stats found.commands
+AreTablesOf set files stats commands found =
+    set.tells → AreTablesAt stats commands (set.held files) found.run.stats found.commands
 
 -- the tables of a run, from its folder
 abbrev pub AreTablesInFolder : {S O : Type 0} → Files S O → S → RunFolder → RunTables → Type 0
-AreTablesInFolder set files folder found = AreTablesOf set files (stats_path folder.dir.now) (commands_path folder.dir.now) found
+AreTablesInFolder set files folder found =
+    AreTablesOf set files (stats_path folder.dir.now) (commands_path folder.dir.now) found
 
 -- the tables of a run can be read, and are right, and so is the configuration that is named, if one is
 abbrev pub CanPage : {S O : Type 0} → Files S O → S → Option (Bor (List ℕ)) → List ℕ → List ℕ → RunTables → Type 0
 CanPage set files config stats commands found =
-    IsReady set.tells (set.held files) (with_config (path_of config) (stats ∷ commands ∷ [])) (λ texts. HoldRunTables texts found.run.stats)
+    IsReady set.tells (set.held files) (with_config (path_of config) (stats ∷ commands ∷ []))
+    (λ texts. HoldRunTables texts found.run.stats)
 
 -- why they are refused
 abbrev pub BarsPage : {S O : Type 0} → Files S O → S → Option (Bor (List ℕ)) → List ℕ → List ℕ → Fault → Type 0
@@ -272,10 +281,12 @@ BarsPage set files config stats commands fault =
 
 -- both of a folder
 abbrev pub CanPageIn : {S O : Type 0} → Files S O → S → RunFolder → RunTables → Type 0
-CanPageIn set files folder found = CanPage set files folder.config (stats_path folder.dir.now) (commands_path folder.dir.now) found
+CanPageIn set files folder found =
+    CanPage set files folder.config (stats_path folder.dir.now) (commands_path folder.dir.now) found
 
 abbrev pub BarsPageIn : {S O : Type 0} → Files S O → S → RunFolder → Fault → Type 0
-BarsPageIn set files folder fault = BarsPage set files folder.config (stats_path folder.dir.now) (commands_path folder.dir.now) fault
+BarsPageIn set files folder fault =
+    BarsPage set files folder.config (stats_path folder.dir.now) (commands_path folder.dir.now) fault
 
 -- the screen of a run and its banks, with what there is to say of its requests
 abbrev pub IsBanksScreenOf : RunTables → Options → Option (Vec RequestTimes Global) → String Global → Type 0
@@ -285,20 +296,25 @@ IsBanksScreenOf found options requests text =
 -- the screen of the run in a folder and its banks, with what there is to say of its requests
 abbrev pub IsBanksScreenIn : {S O : Type 0} → Files S O → S → List ℕ → RunTables → Options → String Global → Type 0
 IsBanksScreenIn set files dir found options text =
-    set.tells → IsBanksScreenAt (set.held files (requests_path dir)) found.run.stats found.commands options found.run.config (string_bytes text)
+    set.tells
+    → IsBanksScreenAt (set.held files (requests_path dir)) found.run.stats found.commands options found.run.config
+    (string_bytes text)
 
 -- why no page is made of the tables of the run in a folder: its requests are refused; or they are not, and a writer is
 abbrev pub BarsPageOf : {S O : Type 0} → Files S O → S → List ℕ → RunTables → Fault → Type 0
 BarsPageOf set files dir found fault =
-    BarsRequestsIn set files dir found.run.stats fault ⊎ ((fault ≡ Write) × FindsSomeRequests set files dir found.run.stats)
+    BarsRequestsIn set files dir found.run.stats fault
+    ⊎ ((fault ≡ Write) × FindsSomeRequests set files dir found.run.stats)
 
 -- a page is in its place, with this warning
 abbrev pub PutsPage : {S O : Type 0} → Files S O → S → S → List ℕ → Option LargePage → Page → Type 0
-PutsPage set old new file warning page = (warning ≡ page.warning) × (set.tells → IsWhole file page.text.items (set.held old) (set.held new))
+PutsPage set old new file warning page =
+    (warning ≡ page.warning) × (set.tells → IsWhole file page.text.items (set.held old) (set.held new))
 
 -- the screen of the run in a folder and its banks was printed
 abbrev pub ShowsBanks : {S O : Type 0} → Files S O → S → RunFolder → Options → (List ℕ → Type 0) → Type 0
-ShowsBanks set files folder options printed = set.tells → IsShownWithBanks folder.dir.now (path_of folder.config) options (set.held files) printed
+ShowsBanks set files folder options printed =
+    set.tells → IsShownWithBanks folder.dir.now (path_of folder.config) options (set.held files) printed
 
 -- the page of the run in a folder is in its place, with this warning of its length
 abbrev pub MakesPage : {S O : Type 0} → Files S O → S → S → RunFolder → List ℕ → Option LargePage → Type 0
@@ -333,11 +349,12 @@ GiveNoRuns tables fault = (fault ≡ Memory) ⊎ IsCompareFault (map (λ t. t.by
 
 -- the statistics of the runs in folders
 abbrev pub AreRunsIn : {S O : Type 0} → Files S O → S → List (Bor (List ℕ)) → Vec RunStats Global → Type 0
-AreRunsIn set files dirs runs = set.tells → AreStatsOf (paths_of dirs) (set.held files) runs.items
+AreRunsIn set files dirs runs = set.tells → AreStatsOf (texts_of dirs) (set.held files) runs.items
 
 -- the tables of the runs in folders can be read, and are right
 abbrev pub CanCompare : {S O : Type 0} → Files S O → S → List (Bor (List ℕ)) → Vec RunStats Global → Type 0
-CanCompare set files dirs runs = IsReady set.tells (set.held files) (stats_paths dirs) (λ texts. HoldRuns texts runs.items)
+CanCompare set files dirs runs =
+    IsReady set.tells (set.held files) (stats_paths dirs) (λ texts. HoldRuns texts runs.items)
 
 -- why they are refused
 abbrev pub BarsCompare : {S O : Type 0} → Files S O → S → List (Bor (List ℕ)) → Fault → Type 0
@@ -348,19 +365,22 @@ abbrev pub IsTailInFolder : {S O : Type 0} → Files S O → S → List ℕ → 
 IsTailInFolder set files dir stats found = set.tells → IsTailIn (set.held files (requests_path dir)) stats found
 
 -- the 99th percentile of each of the runs in folders, if each has a table of requests; else none
-abbrev pub AreTailsIn : {S O : Type 0} → Files S O → S → List (Bor (List ℕ)) → List RunStats → Vec (Option ℕ) Global → Type 0
-AreTailsIn set files dirs runs tails = set.tells → AreTails (paths_of dirs) (set.held files) runs tails.items
+abbrev pub AreTailsIn : {S O : Type 0} → Files S O → S → List (Bor (List ℕ)) → List RunStats → Vec (Option ℕ) Global
+    → Type 0
+AreTailsIn set files dirs runs tails = set.tells → AreTails (texts_of dirs) (set.held files) runs tails.items
 
 -- why there are none: memory was refused, or the requests in a folder are
 abbrev pub BarsTails : {S O : Type 0} → Files S O → S → List (Bor (List ℕ)) → List RunStats → Fault → Type 0
-BarsTails set files dirs runs fault = (fault ≡ Memory) ⊎ IsFolderRefused set.tells (set.held files) (paths_of dirs) runs fault
+BarsTails set files dirs runs fault =
+    (fault ≡ Memory) ⊎ IsFolderRefused set.tells (set.held files) (texts_of dirs) runs fault
 
 -- the comparison of the runs in folders was printed
 abbrev pub Compares : {S O : Type 0} → Files S O → S → List (Bor (List ℕ)) → Layout → (List ℕ → Type 0) → Type 0
-Compares set files dirs layout printed = set.tells → IsCompared (paths_of dirs) layout (set.held files) printed
+Compares set files dirs layout printed = set.tells → IsCompared (texts_of dirs) layout (set.held files) printed
 
 -- why no comparison is printed
 abbrev pub RefusesCompare : {S O : Type 0} → Files S O → S → List (Bor (List ℕ)) → Fault → Type 0
 RefusesCompare set files dirs fault =
-    IsAnswerFault set.tells (set.held files) (stats_paths dirs) (IsNoComparison set.tells (set.held files) (paths_of dirs))
-    (IsRightCompare set.tells (set.held files) (paths_of dirs)) fault
+    IsAnswerFault set.tells (set.held files) (stats_paths dirs)
+    (IsNoComparison set.tells (set.held files) (texts_of dirs))
+    (IsRightCompare set.tells (set.held files) (texts_of dirs)) fault

@@ -29,7 +29,8 @@ Fits machine stats = (machine.cores ≡ length stats.cores) × (machine.channels
 -- the machine that a document describes, where there is one; the run fits it
 abbrev pub IsConfiguredBy : Option (List ℕ) → RunStats → Option Config → Type 0
 IsConfiguredBy None stats None = ⊤
-IsConfiguredBy (Some document) stats (Some machine) = (document_of document ≡ Ok (values_of machine)) × Fits machine stats
+IsConfiguredBy (Some document) stats (Some machine) =
+    (document_of document ≡ Ok (values_of machine)) × Fits machine stats
 IsConfiguredBy _ stats _ = ⊥
 
 -- a file holds the configuration of a machine that the run fits

@@ -135,7 +135,8 @@ pub record AreCommandsRefused (texts : List (List ℕ)) (table : List ℕ) (faul
 -- what is wrong with them: first what is with those of a show, then the table of commands, and last that a command is
 -- not of the run
 abbrev pub IsPageFault : List (List ℕ) → Fault → Type 0
-IsPageFault (stats ∷ commands ∷ []) fault = IsShowFault (stats ∷ []) fault ⊎ AreCommandsRefused (stats ∷ []) commands fault
+IsPageFault (stats ∷ commands ∷ []) fault =
+    IsShowFault (stats ∷ []) fault ⊎ AreCommandsRefused (stats ∷ []) commands fault
 IsPageFault (document ∷ stats ∷ commands ∷ []) fault =
     IsShowFault (document ∷ stats ∷ []) fault ⊎ AreCommandsRefused (document ∷ stats ∷ []) commands fault
 IsPageFault _ fault = ⊥
@@ -143,7 +144,8 @@ IsPageFault _ fault = ⊥
 -- nothing is, and they hold these statistics, and commands of their run
 abbrev pub HoldRunTables : List (List ℕ) → RunStats → Type 0
 HoldRunTables (table ∷ commands ∷ []) stats = HoldRun (table ∷ []) stats × HoldsCommandsOf commands stats
-HoldRunTables (document ∷ table ∷ commands ∷ []) stats = HoldRun (document ∷ table ∷ []) stats × HoldsCommandsOf commands stats
+HoldRunTables (document ∷ table ∷ commands ∷ []) stats =
+    HoldRun (document ∷ table ∷ []) stats × HoldsCommandsOf commands stats
 HoldRunTables _ stats = ⊥
 
 -- ---- the requests in the folder of a run, which are looked at where its texts are right
@@ -227,9 +229,11 @@ pub record IsReady (tells : Type 0) (held : Held) (paths : List (List ℕ)) (is_
 
 -- memory was refused; or a file is not there; or all are, and this is wrong with what they hold
 abbrev pub IsInputFault : Type 0 → Held → List (List ℕ) → (List (List ℕ) → Fault → Type 0) → Fault → Type 0
-IsInputFault tells held paths is_fault fault = IsFilesFault tells held paths fault ⊎ IsFoundFault tells held paths is_fault fault
+IsInputFault tells held paths is_fault fault =
+    IsFilesFault tells held paths fault ⊎ IsFoundFault tells held paths is_fault fault
 
 -- the input is refused; or nothing is wrong with it, and the answer cannot be written
-abbrev pub IsAnswerFault : Type 0 → Held → List (List ℕ) → (List (List ℕ) → Fault → Type 0) → (List (List ℕ) → Type 0) → Fault → Type 0
+abbrev pub IsAnswerFault : Type 0 → Held → List (List ℕ) → (List (List ℕ) → Fault → Type 0) → (List (List ℕ) → Type 0)
+    → Fault → Type 0
 IsAnswerFault tells held paths is_fault is_right fault =
     IsInputFault tells held paths is_fault fault ⊎ ((fault ≡ Write) × IsReady tells held paths is_right)

@@ -57,7 +57,8 @@ pub record IsOfOtherRun (table : List ℕ) (stats : RunStats) (row : ℕ) : Type
 -- why a table holds no requests of the run: it is no table of requests from this row on, or of another run; or memory
 -- was refused
 abbrev pub IsNoRequests : List ℕ → RunStats → Fault → Type 0
-IsNoRequests table stats (CheckRow row) = IsFirstWrong HoldsRequests (records_of table) row ⊎ IsOfOtherRun table stats row
+IsNoRequests table stats (CheckRow row) =
+    IsFirstWrong HoldsRequests (records_of table) row ⊎ IsOfOtherRun table stats row
 IsNoRequests table stats Memory = ⊤
 IsNoRequests table stats _ = ⊥
 
@@ -80,7 +81,8 @@ AreShown stats options (Some requests) text =
 
 -- it was put behind a text
 abbrev pub AddsRequests : RunStats → Options → Option (List RequestTimes) → List ℕ → List ℕ → Type 0
-AddsRequests stats options requests old new = (more : List ℕ) × (new ≡ old ++ more) × AreShown stats options requests more
+AddsRequests stats options requests old new =
+    (more : List ℕ) × (new ≡ old ++ more) × AreShown stats options requests more
 
 -- the screen of a run, and behind it what there is to say of its requests
 pub record IsRunScreen (stats : RunStats) (options : Options) (machine : Option Config) (requests : Option (List RequestTimes)) (text : List ℕ) : Type 0 where
@@ -98,7 +100,8 @@ pub record IsScreenAt (found : Option (List ℕ)) (stats : RunStats) (options : 
 
 -- the screen of a run and its banks, and behind it what there is to say of its requests
 pub record IsRunBanksScreen
-    (stats : RunStats) (commands : List IssuedCommand) (options : Options) (machine : Option Config) (requests : Option (List RequestTimes)) (text : List ℕ)
+    (stats : RunStats) (commands : List IssuedCommand) (options : Options) (machine : Option Config)
+    (requests : Option (List RequestTimes)) (text : List ℕ)
     : Type 0 where
   pub above : List ℕ
   pub below : List ℕ
@@ -156,7 +159,8 @@ IsTailIn found stats None = found ≡ None
 -- the folder of each run has requests, and these are their 99th percentiles
 pub record HaveTails (dirs : List (List ℕ)) (held : Held) (runs : List RunStats) (tails : List (Option ℕ)) : Type 0 where
   pub count : length tails ≡ length dirs
-  pub tails_are : (k : ℕ) (dir : List ℕ) (run : RunStats) (tail : Option ℕ) → slice_get dirs k ≡ Some dir → slice_get runs k ≡ Some run → slice_get tails k ≡ Some tail
+  pub tails_are : (k : ℕ) (dir : List ℕ) (run : RunStats) (tail : Option ℕ) → slice_get dirs k ≡ Some dir
+      → slice_get runs k ≡ Some run → slice_get tails k ≡ Some tail
       → IsTailAt (held (requests_path dir)) run tail
 
 -- a folder has no requests, and each folder before it has requests of its run

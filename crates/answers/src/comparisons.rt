@@ -61,7 +61,7 @@ fn tables_in<F: FileSet>(
     Ok(tables)
 }
 
-// What they hold.
+// The statistics that tables hold.
 fn runs_of(alloc: Global, tables: &[StatsTable]) -> Result<Vec<Stats>, Reason>
     ensures read { IfOk result (GiveRuns tables.now) }
     ensures fault { IfErr result (GiveNoRuns tables.now) }
@@ -144,8 +144,9 @@ fn tails_in<F: FileSet>(
 /// # Errors
 ///
 /// The first of these: `Fault::Read` of a file; `Fault::CheckRow` of the first wrong record of the first table of
-/// statistics that has one; the same of the requests of the first folder in which they are wrong or not of its run, up
-/// to a folder that has none; `Fault::Write` where the answer cannot be written. `Fault::Memory` may come at any time.
+/// statistics that has one; `Fault::CheckRow` of the requests of the first folder in which they are wrong or not of its
+/// run, up to a folder that has none; `Fault::Write` where the answer cannot be written. `Fault::Memory` may come at
+/// any time.
 pub fn perform_compare<F: FileSet, P: Write>(
     alloc: Global,
     files: &mut F,

@@ -3,7 +3,8 @@
 ghost use Rattle.std.specs.Prelude.{◌≡◌, ◌⊎◌, IfOk, IfErr, OnOk, OnErr, IsOk, IsOkAnd, IsErrAnd};
 ghost use Rattle.page.specs.Document.{IsDocument};
 ghost use Rattle.refusal.specs.Warnings.{IsWarningOf};
-ghost use Rattle.whole_files.specs.Files.{SameFiles, IsWriteFault};
+ghost use Rattle.whole_files.specs.Files.{SameFiles};
+ghost use Rattle.sim_base.specs.Faults.{IsWriteFault};
 ghost use Rattle.whole_files.specs.WholeFile.{part_of};
 ghost use Rattle.answers.specs.Inputs.{HasOwnCommands, FindsSomeRequests, BarsPageOf, PutsPage, MakesPage, OpensOne, LeavesUnwritten, RefusesPage};
 

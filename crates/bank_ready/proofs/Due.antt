@@ -12,7 +12,7 @@ use Rattle.sim_base.specs.declared.command.Command.TheVariants.{Ref}
 use Rattle.sim_base.specs.History.{below}
 use Rattle.sim_base.specs.Scheduling.{due, lowest_due, refreshes}
 use Rattle.sim_base.proofs.Lists.{find-none, count-push}
-use Rattle.bank_ready.specs.Refreshes.{RefreshCounts, owed, lowest_owed, IsFirstDue, IsDueFrom, IsFewest, IsCountable, IsQuietTo, IsCounted, IsNoRefresh, StandsFor, refreshed}
+use Rattle.bank_ready.specs.Refreshes.{RefreshCounts, owed, lowest_owed, IsFirstDue, IsDueFrom, IsFewest, IsCountable, NoneIsDueTo, IsCounted, IsNoRefresh, StandsFor, refreshed}
 
 -- what is due to a rank
 pub due_from_owed : (counts : RefreshCounts) (s : Config) (rank : ℕ) (history : List IssuedCommand) (now : ℕ) → StandsFor counts s history → rank < counts.ranks
@@ -157,8 +157,8 @@ stands_without_refresh counts s history i other stands = record {
 }
 
 -- Some refresh is due from the cycle on that follows the last with none.
-pub next_is_first : (counts : RefreshCounts) (now quiet next : ℕ) → 0 < counts.interval → IsQuietTo counts quiet → next ≡ max now (quiet + 1) → IsFirstDue (lowest_owed counts) now next
-next_is_first counts now quiet next some is latest =
+pub next_is_first : (counts : RefreshCounts) (now none_until next : ℕ) → 0 < counts.interval → NoneIsDueTo counts none_until → next ≡ max now (none_until + 1) → IsFirstDue (lowest_owed counts) now next
+next_is_first counts now none_until next some is latest =
     let ends = is.ends some in
     first_due counts now ends.0 next some ends.1 (latest ∙ ap (max now) ends.2)
 
@@ -167,17 +167,17 @@ some_is None never = cc
 some_is (Some k) some = refl
 
 -- whether some refresh is due by a cycle
-pub due_by_is : (counts : RefreshCounts) (quiet cycle : ℕ) → cycle ≤ 18446744073709551615 → IsQuietTo counts quiet → is_some (lowest_owed counts cycle) ≡ ltb quiet cycle
-due_by_is counts quiet cycle fits is = elim (cases_lt 0 counts.interval) [
-  | inl some ↦ elim (cases_lt quiet cycle) [
-    | inl after ↦ some_is (lowest_owed counts cycle) (next_is_first counts cycle quiet cycle some is (omega arith)).due ∙ sym (lt-ltb quiet cycle after)
+pub due_by_is : (counts : RefreshCounts) (none_until cycle : ℕ) → cycle ≤ 18446744073709551615 → NoneIsDueTo counts none_until → is_some (lowest_owed counts cycle) ≡ ltb none_until cycle
+due_by_is counts none_until cycle fits is = elim (cases_lt 0 counts.interval) [
+  | inl some ↦ elim (cases_lt none_until cycle) [
+    | inl after ↦ some_is (lowest_owed counts cycle) (next_is_first counts cycle none_until cycle some is (omega arith)).due ∙ sym (lt-ltb none_until cycle after)
     | inr before ↦
-        ap is_some ((next_is_first counts 0 quiet (quiet + 1) some is (omega arith)).none_before cycle (omega arith) (omega arith)) ∙ sym (le-ltb quiet cycle before)
+        ap is_some ((next_is_first counts 0 none_until (none_until + 1) some is (omega arith)).none_before cycle (omega arith) (omega arith)) ∙ sym (le-ltb none_until cycle before)
   ]
   | inr none ↦
       let never : counts.interval ≡ 0 = omega arith in
       ap is_some (find-none (λ rank. ltb 0 (owed counts rank cycle)) 0 counts.ranks (λ rank l. ap (ltb 0) (cond-true (eqb counts.interval 0) 0 _ (eq-eqb counts.interval 0 never))))
-      ∙ sym (le-ltb quiet cycle (omega (arith, is.never never)))
+      ∙ sym (le-ltb none_until cycle (omega (arith, is.never never)))
 ]
 
 -- where a refresh is due, there are refreshes
@@ -242,18 +242,18 @@ ends_fit counts rank now fewest before exists four fits due least reached =
     (omega arith, omega (arith, before.interval_in))
 
 -- the last cycle with nothing due after that refresh
-pub counted_more : (counts : RefreshCounts) (rank now fewest quiet : ℕ) → IsCountable counts → rank < counts.ranks → length counts.issued ≡ 4 → now < 2 ^ 62 → 0 < owed counts rank now
+pub counted_more : (counts : RefreshCounts) (rank now fewest none_until : ℕ) → IsCountable counts → rank < counts.ranks → length counts.issued ≡ 4 → now < 2 ^ 62 → 0 < owed counts rank now
     → ((k : ℕ) → k < length (take counts.ranks (refreshed counts rank).issued) → fewest ≤ slice_index (take counts.ranks (refreshed counts rank).issued) k)
     → ((k : ℕ) × (k < length (take counts.ranks (refreshed counts rank).issued)) × (slice_index (take counts.ranks (refreshed counts rank).issued) k ≡ fewest))
-    → quiet ≡ (fewest + 1) * counts.interval - 1 → IsCounted (refreshed counts rank) quiet
-counted_more counts rank now fewest quiet before exists four fits due least reached is =
+    → none_until ≡ (fewest + 1) * counts.interval - 1 → IsCounted (refreshed counts rank) none_until
+counted_more counts rank now fewest none_until before exists four fits due least reached is =
     let some = owed_some counts rank now due in
     let same_length = length-set counts.issued rank (slice_index counts.issued rank + 1) in
     let least_now = fewest_is (refreshed counts rank) fewest (omega (arith, before.ranks_in, same_length)) least reached in
     let product : 0 < (fewest + 1) * counts.interval = omega arith in
     record {
       countable = countable_more counts rank now before (omega (arith, before.ranks_in)) fits due;
-      is_quiet_to = record {
+      none_is_due_to = record {
         never = λ none. absurd (omega arith);
         ends = λ _. (fewest, least_now, omega arith);
       };

@@ -6,7 +6,7 @@ use Rattle.std.proofs.lemmas.List.{get_or_read}
 use Rattle.std.proofs.lemmas.Option.{IfSome_then}
 use Rattle.std.specs.declared.vec.Vec.{Vec}
 use Rattle.std.specs.Vec.{with_items}
-use Rattle.sim_base.specs.Places.{is_bank}
+use Rattle.sim_base.specs.Places.{is_bank, bank_at}
 use Rattle.sim_base.specs.declared.timing.Timing.{Timing}
 use Rattle.sim_base.specs.declared.place.BankId.{BankId}
 use Rattle.sim_base.specs.declared.command.Kind.{Kind}
@@ -19,7 +19,7 @@ use Rattle.sim_base.specs.declared.command.Source.{Source}
 use Rattle.sim_base.specs.Rules.{is_kind, kind_of, rank_of, bank_of}
 use Rattle.sim_base.proofs.Lists.{with_items_lent, length-lent}
 use Rattle.bank_ready.specs.Ready.{held_until}
-use Rattle.bank_ready.specs.Words.{bank_at, is_own, relation_from, group_relation_from, is_column_kind, no_acts, pushed, word_until, rank_raised, rank_state_after, act_pushed}
+use Rattle.bank_ready.specs.Words.{is_own, relation_from, group_relation_from, is_column_kind, no_acts, pushed, word_until, rank_raised, rank_state_after, act_pushed}
 use Rattle.bank_ready.specs.Noted.{IsRaised, window_word, IsNoted}
 use Rattle.bank_ready.specs.declared.words.RankState.{RankState}
 use Rattle.bank_ready.specs.declared.banks.Banks.{Banks}

@@ -5,7 +5,7 @@ use Rattle.std.proofs.lemmas.Grind.{get_or-set_at}
 use Rattle.std.proofs.lemmas.List.{get_or_default, get_or-set_other}
 use Rattle.sim_base.specs.declared.place.BankId.{BankId}
 use Rattle.bank_ready.specs.Words.{ranks_until, all_groups_until}
-use Rattle.bank_ready.specs.Raised.{AreAllRaised, IsSpanRaised, AreSameBefore, AreSameFrom}
+use Rattle.bank_ready.specs.Raised.{AreAllRaised, IsRangeRaised, AreSameBefore, AreSameFrom}
 
 -- so many words from a place on are raised, and no others
 pub record ArePartRaised (old now : List ℕ) (first count : ℕ) (until : ℕ → ℕ) : Type 0 where
@@ -39,7 +39,7 @@ one-more old now first count value until so_far inside is = record {
 
 -- four words more
 pub four-more : (old now new : List ℕ) (count to : ℕ) (until : ℕ → ℕ) → ArePartRaised old now 0 (4 * count) until
-    → IsSpanRaised now new (4 * count) 4 to → AreSameBefore now new (4 * count) → AreSameFrom now new (4 * count + 4)
+    → IsRangeRaised now new (4 * count) 4 to → AreSameBefore now new (4 * count) → AreSameFrom now new (4 * count + 4)
     → ((k : ℕ) → k / 4 ≡ count → to ≡ until k) → ArePartRaised old new 0 (4 * (count + 1)) until
 four-more old now new count to until so_far raised before after same = record {
   done = λ k d from l. elim (cases_lt k (4 * count)) [

@@ -13,7 +13,8 @@ use Rattle.sim_base.specs.declared.command.Kind.TheVariants as kind
 use Rattle.sim_base.specs.declared.command.IssuedCommand.{IssuedCommand}
 use Rattle.sim_base.specs.History.{below}
 use Rattle.bank_ready.specs.Ready.{held_by, ready_from, window_ends}
-use Rattle.bank_ready.specs.Words.{act_word, rd_word, wr_word, pre_word, bank_at, no_acts, window_from, word_from, act_word_from, word_until, acts_in, rank_state_from, rank_state_after}
+use Rattle.bank_ready.specs.Words.{act_word, rd_word, wr_word, pre_word, no_acts, window_from, word_from, act_word_from, word_until, acts_in, rank_state_from, rank_state_after}
+use Rattle.sim_base.specs.Places.{bank_at}
 use Rattle.bank_ready.specs.Noted.{IsRaised, window_word, IsFloorRaised, IsNoted}
 use Rattle.bank_ready.specs.Stands.{StandsFor, Ascends, IsFloor}
 use Rattle.bank_ready.specs.declared.words.RankState.{RankState}

@@ -8,6 +8,6 @@ use Rattle.bank_ready.specs.declared.refresh.Refresh.TheInside.{Inside}
 abbrev pub counts_of : Inside → RefreshCounts
 counts_of r = record { interval = r.refresh_interval; ranks = r.ranks; issued = r.issued }
 
--- the counts are in their ranges, and `quiet_to` is the last cycle in which no refresh is due
+-- the counts are in their ranges, and `none_due_to` is the last cycle in which no refresh is due
 abbrev pub AreKept : Inside → Type 0
-AreKept r = IsCounted (counts_of r) r.quiet_to
+AreKept r = IsCounted (counts_of r) r.none_due_to

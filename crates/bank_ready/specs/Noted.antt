@@ -32,19 +32,22 @@ window_word banks command k =
 -- the kind
 abbrev pub IsFloorRaised : Timing → ℕ → Command → Kind → ℕ → ℕ → Type 0
 IsFloorRaised t cycle command later before after =
-    (rank : ℕ) (bank : Option BankId) → after ≤ max before (held_until t cycle (kind_of command) later (relation_to command rank bank))
+    (rank : ℕ) (bank : Option BankId)
+    → after ≤ max before (held_until t cycle (kind_of command) later (relation_to command rank bank))
 
 -- one more command is noted in the words of each bank and each rank, by these distances
 pub record IsNoted (banks after : Banks) (t : Timing) (cycle : ℕ) (command : Command) : Type 0 where
   pub delays : after.delays ≡ banks.delays
-  pub act : IsRaised (16 * length banks.ranks.items) (act_word banks) (act_word after) (λ k. max (word_until t cycle command Act k) (window_word banks command k))
+  pub act : IsRaised (16 * length banks.ranks.items) (act_word banks) (act_word after)
+      (λ k. max (word_until t cycle command Act k) (window_word banks command k))
   pub rd : IsRaised (16 * length banks.ranks.items) (rd_word banks) (rd_word after) (word_until t cycle command Rd)
   pub wr : IsRaised (16 * length banks.ranks.items) (wr_word banks) (wr_word after) (word_until t cycle command Wr)
   pub pre : IsRaised (16 * length banks.ranks.items) (pre_word banks) (pre_word after) (word_until t cycle command Pre)
   pub rd_floor : IsFloorRaised t cycle command Rd banks.rd_floor after.rd_floor
   pub wr_floor : IsFloorRaised t cycle command Wr banks.wr_floor after.wr_floor
   pub rank_count : length after.ranks.items ≡ length banks.ranks.items
-  pub ranks : (k : ℕ) (d : RankState) → k < length banks.ranks.items → slice_index_or after.ranks.items k d ≡ rank_state_after t cycle command k (slice_index_or banks.ranks.items k d)
+  pub ranks : (k : ℕ) (d : RankState) → k < length banks.ranks.items
+      → slice_index_or after.ranks.items k d ≡ rank_state_after t cycle command k (slice_index_or banks.ranks.items k d)
 
 -- one more command is noted in the words of each bank and each rank, by the distances that the banks keep
 abbrev pub HasNoted : Banks → Banks → ℕ → Command → Type 0

@@ -1,7 +1,7 @@
 -- Words of a column that are raised: each becomes the later of what it was and a cycle by its number.
 --     AreRaised old new until      each word is raised
 --     AreAllRaised old new until      the same, of the numbers that are those of words
---     IsSpanRaised old new first count until      some words are raised to a cycle
+--     IsRangeRaised old new first count until      some words are raised to a cycle
 --     AreSameBefore old new first, AreSameFrom old new end      the words before a place stay, and those from a place on
 --     group_word_until t cycle earlier later bank k      to which cycle a group's word is raised after a command
 --     act_until t cycle bank end k      to which cycle it is after an ACT
@@ -21,11 +21,12 @@ AreRaised old new until = (k d : ℕ) → slice_index_or new k d ≡ max (slice_
 
 -- each word whose number is below the length of the list is raised to a cycle by its number
 abbrev pub AreAllRaised : List ℕ → List ℕ → (ℕ → ℕ) → Type 0
-AreAllRaised old new until = (k d : ℕ) → k < length old → slice_index_or new k d ≡ max (slice_index_or old k d) (until k)
+AreAllRaised old new until =
+    (k d : ℕ) → k < length old → slice_index_or new k d ≡ max (slice_index_or old k d) (until k)
 
--- so many words from a place on are raised to a cycle
-abbrev pub IsSpanRaised : List ℕ → List ℕ → ℕ → ℕ → ℕ → Type 0
-IsSpanRaised old new first count until =
+-- `count` words from the place `first` on are raised to a cycle
+abbrev pub IsRangeRaised : List ℕ → List ℕ → ℕ → ℕ → ℕ → Type 0
+IsRangeRaised old new first count until =
     (k d : ℕ) → first ≤ k → k < first + count → slice_index_or new k d ≡ max (slice_index_or old k d) until
 
 -- the words before a place stay
@@ -49,4 +50,5 @@ act_until t cycle bank end k = max (group_word_until t cycle Act Act bank k) (gr
 -- of all ranks one changes like this
 abbrev pub IsRankChanged : List RankState → List RankState → ℕ → (RankState → RankState) → Type 0
 IsRankChanged old new rank change =
-    (k : ℕ) (d : RankState) → slice_index_or new k d ≡ (if rank == k then change (slice_index_or old k d) else slice_index_or old k d)
+    (k : ℕ) (d : RankState)
+    → slice_index_or new k d ≡ (if rank == k then change (slice_index_or old k d) else slice_index_or old k d)

@@ -16,7 +16,8 @@ use Rattle.timing.specs.Holds.{hold}
 -- From which cycle on a command no longer holds back a later one whose banks relate to its own like this: from the gap
 -- after its own cycle on, and from 0 on where no rule binds the two.
 unfoldable pub held_until : Timing → ℕ → Kind → Kind → Relation → ℕ
-held_until t cycle earlier later relation = unwrap_or (option_map (λ gap. cycle + gap) (hold t earlier later relation)) 0
+held_until t cycle earlier later relation =
+    unwrap_or (option_map (λ gap. cycle + gap) (hold t earlier later relation)) 0
 
 -- From which cycle on a command of a history no longer holds back a later one of a kind in a rank, which names this
 -- bank, if it names one.

@@ -1,5 +1,4 @@
 -- What a bank and a rank keep of a history.
---     bank_at k, number_of bank      the bank with a number, and the number of a bank
 --     is_own own k      a number is that of a bank, if there is such a bank
 --     own_until own until k, rank_until rank until k      to which cycle the word of a bank is raised
 --     groups_rank_until, group_until, ranks_until, all_groups_until      to which cycle that of a group is
@@ -15,7 +14,7 @@
 --     rank_raised t cycle earlier state      what a rank keeps after one more command in it
 --     rank_after_act t cycle end state      what it keeps after an ACT
 --     rank_state_after t cycle command rank state      what a rank keeps after one more command
-use Rattle.std.specs.Prelude.{ℕ, ◌+◌, ◌*◌, ◌/◌, ◌%◌, ◌==◌, ◌&&◌, max, Bool, true, false, List, slice_index_or, fold, Option, Some, None, if◌then◌else◌}
+use Rattle.std.specs.Prelude.{ℕ, ◌+◌, ◌/◌, ◌%◌, ◌==◌, ◌&&◌, max, Bool, true, false, List, slice_index_or, fold, Option, Some, None, if◌then◌else◌}
 use Rattle.sim_base.specs.declared.timing.Timing.{Timing}
 use Rattle.sim_base.specs.declared.place.BankId.{BankId}
 use Rattle.sim_base.specs.declared.command.Command.{Command}
@@ -30,14 +29,7 @@ use Rattle.bank_ready.specs.Ready.{held_until, ready_from, window_ends}
 use Rattle.bank_ready.specs.declared.words.ActWindow.{ActWindow}
 use Rattle.bank_ready.specs.declared.words.RankState.{RankState}
 use Rattle.bank_ready.specs.declared.banks.Banks.{Banks}
-
--- the bank with this number, each rank having places for four groups of four banks
-abbrev pub bank_at : ℕ → BankId
-bank_at k = record { rank = k / 16; group = k / 4 % 4; bank = k % 4 }
-
--- the number of a bank
-abbrev pub number_of : BankId → ℕ
-number_of bank = bank.rank * 16 + bank.group * 4 + bank.bank
+use Rattle.sim_base.specs.Places.{bank_at}
 
 -- this number is that of a bank, if there is such a bank
 abbrev pub is_own : Option ℕ → ℕ → Bool
@@ -48,10 +40,11 @@ is_own None k = false
 abbrev pub own_until : Option ℕ → ℕ → ℕ → ℕ
 own_until own until k = if is_own own k then until else 0
 
--- to which cycle the word of a bank, or of a group, with this number is raised: each one of this rank
+-- to which cycle the word of the bank with this number is raised: each one of this rank
 abbrev pub rank_until : ℕ → ℕ → ℕ → ℕ
 rank_until rank until k = if rank == k / 16 then until else 0
 
+-- to which cycle the word of the group with this number is raised: each one of this rank
 abbrev pub groups_rank_until : ℕ → ℕ → ℕ → ℕ
 groups_rank_until rank until k = if rank == k / 4 then until else 0
 
@@ -79,19 +72,23 @@ relation_from bank k = if bank.rank == k / 16 then relation_in_rank (Some bank) 
 -- how a bank relates to the group with this number, each rank having places for four groups: to its own group, as to
 -- another bank of it
 abbrev pub group_relation_from : BankId → ℕ → Relation
-group_relation_from bank k = if bank.rank == k / 4 then (if bank.group == k % 4 then SameGroup else OtherGroup) else OtherRank
+group_relation_from bank k =
+    if bank.rank == k / 4 then (if bank.group == k % 4 then SameGroup else OtherGroup) else OtherRank
 
--- From which cycle on each command of the bank with this number is no longer held back, as it is kept: for an ACT, a RD
--- and a WR it is the later of the bank's own word and its group's.
+-- from which cycle on an ACT of the bank with this number is no longer held back: the later of the bank's own word and
+-- its group's
 abbrev pub act_word : Banks → ℕ → ℕ
 act_word banks k = max (slice_index_or banks.act.items k 0) (slice_index_or banks.act_groups.items (k / 4) 0)
 
+-- from which cycle on a RD of the bank with this number is no longer held back
 abbrev pub rd_word : Banks → ℕ → ℕ
 rd_word banks k = max (slice_index_or banks.rd.items k 0) (slice_index_or banks.rd_groups.items (k / 4) 0)
 
+-- from which cycle on a WR of the bank with this number is no longer held back
 abbrev pub wr_word : Banks → ℕ → ℕ
 wr_word banks k = max (slice_index_or banks.wr.items k 0) (slice_index_or banks.wr_groups.items (k / 4) 0)
 
+-- from which cycle on a PRE of the bank with this number is no longer held back
 abbrev pub pre_word : Banks → ℕ → ℕ
 pre_word banks k = slice_index_or banks.pre.items k 0
 
@@ -122,8 +119,7 @@ is_column_kind Pre = false
 is_column_kind Prea = false
 is_column_kind Ref = false
 
--- the last four ACTs of a rank that had none, and after one more, which no longer counts for the four-activate window
--- from `end` on
+-- the last four ACTs of a rank that had none
 abbrev pub no_acts : ActWindow
 no_acts = record { oldest = 0; second = 0; third = 0; last = 0 }
 
@@ -131,6 +127,7 @@ no_acts = record { oldest = 0; second = 0; third = 0; last = 0 }
 abbrev pub unused_rank : RankState
 unused_rank = record { prea = 0; refresh = 0; window = no_acts }
 
+-- the last four ACTs of a rank after one more, which no longer counts for the four-activate window from `end` on
 abbrev pub pushed : ActWindow → ℕ → ActWindow
 pushed window end = record { oldest = window.second; second = window.third; third = window.last; last = end }
 
@@ -158,7 +155,8 @@ rank_state_from t history rank =
 
 -- from which cycle on one command no longer holds back another of the bank with this number
 abbrev pub word_until : Timing → ℕ → Command → Kind → ℕ → ℕ
-word_until t cycle command later k = held_until t cycle (kind_of command) later (relation_to command (k / 16) (Some (bank_at k)))
+word_until t cycle command later k =
+    held_until t cycle (kind_of command) later (relation_to command (k / 16) (Some (bank_at k)))
 
 -- a rank whose words are raised by a command of this kind in the rank
 abbrev pub rank_raised : Timing → ℕ → Kind → RankState → RankState

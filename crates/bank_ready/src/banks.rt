@@ -50,7 +50,8 @@ impl Banks {
     ghost use Rattle.sim_base.specs.declared.command.IssuedCommand.{IssuedCommand};
     ghost use Rattle.sim_base.specs.declared.command.Source.{Source};
     ghost use Rattle.sim_base.specs.Rules.{kind_of, bank_of, rank_of};
-    ghost use Rattle.bank_ready.specs.Words.{names_bank, names_rank, is_column_kind, bank_at};
+    ghost use Rattle.bank_ready.specs.Words.{names_bank, names_rank, is_column_kind};
+    ghost use Rattle.sim_base.specs.Places.{bank_at};
     ghost use Rattle.bank_ready.specs.Noted.{HasNoted};
     ghost use Rattle.bank_ready.specs.Stands.{rank_count, IsAllowedFrom, followed_by, StandsFor};
 

@@ -22,7 +22,7 @@ pub struct Refresh {
     /// The refreshes that each rank has had.
     issued: [u64; 4],
     /// The last cycle in which no refresh is due, as long as none is issued; MAX: none is ever due.
-    quiet_to: Cycle,
+    none_due_to: Cycle,
 }
 
 impl Model for Refresh {
@@ -65,7 +65,7 @@ impl Refresh {
             refresh_interval,
             ranks,
             issued: [0; 4],
-            quiet_to: if refresh_interval == 0 {
+            none_due_to: if refresh_interval == 0 {
                 Cycle::MAX
             } else {
                 u64::from(refresh_interval) - 1
@@ -114,7 +114,7 @@ impl Refresh {
         if self.refresh_interval == 0 {
             return None;
         }
-        Some(now.max(self.quiet_to + 1))
+        Some(now.max(self.none_due_to + 1))
     }
 
     /// Whether a refresh of some rank is due in a cycle, or before it, as long as none is issued.
@@ -122,7 +122,7 @@ impl Refresh {
     pub fn is_due_by(&self, cycle: Cycle) -> bool
         ensures { result ≡ is_some (lowest_owed self.now cycle) }
     {
-        self.quiet_to < cycle
+        self.none_due_to < cycle
     }
 
     /// The number of ranks.
@@ -160,6 +160,6 @@ impl Refresh {
     {
         self.issued[rank as usize] += 1;
         let fewest = fewest(&self.issued[..self.ranks as usize]);
-        self.quiet_to = (fewest + 1) * u64::from(self.refresh_interval) - 1;
+        self.none_due_to = (fewest + 1) * u64::from(self.refresh_interval) - 1;
     }
 }

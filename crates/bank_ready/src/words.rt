@@ -2,13 +2,13 @@
 //! it keeps of each rank.
 
 ghost use Rattle.std.specs.Prelude.{◌≡◌, ◌+◌, ◌*◌, ◌%◌, ◌^◌, ◌<◌, ◌≤◌, ℕ, max, IsTrue, IfSome, IfOk, length, replicate};
-ghost use Rattle.sim_base.specs.Places.{is_bank};
+ghost use Rattle.sim_base.specs.Places.{is_bank, bank_at};
 ghost use Rattle.sim_base.specs.declared.command.Relation.{Relation};
 ghost use Rattle.sim_base.specs.Rules.{is_bound};
 ghost use Rattle.bank_ready.specs.Ready.{held_until};
-ghost use Rattle.bank_ready.specs.Words.{is_column_kind, is_own, bank_at, number_of, rank_after_act, rank_raised, own_until, rank_until, unused_rank};
+ghost use Rattle.bank_ready.specs.Words.{is_column_kind, is_own, rank_after_act, rank_raised, own_until, rank_until, unused_rank};
 ghost use Rattle.bank_ready.specs.Words.{groups_rank_until, group_until, ranks_until, all_groups_until};
-ghost use Rattle.bank_ready.specs.Raised.{AreRaised, AreAllRaised, IsSpanRaised, AreSameBefore, AreSameFrom};
+ghost use Rattle.bank_ready.specs.Raised.{AreRaised, AreAllRaised, IsRangeRaised, AreSameBefore, AreSameFrom};
 ghost use Rattle.bank_ready.specs.Raised.{group_word_until, act_until, IsRankChanged};
 
 use sim_base::command::{Kind, Relation};
@@ -79,7 +79,8 @@ fn bank_and_group_words(alloc: Global, ranks: usize) -> Result<BankAndGroupWords
     Ok((banks, groups))
 }
 
-/// Such words for ACTs, for RDs and for WRs.
+/// For ACTs, for RDs and for WRs: a word for each bank of so many ranks, and one for each group, that hold nothing
+/// back.
 pub(crate) fn act_rd_and_wr_words(
     alloc: Global,
     ranks: usize,
@@ -115,17 +116,6 @@ pub(crate) fn bound_until(
     cycle + delays.gap(earlier, later, relation)
 }
 
-/// The number of a bank among those of all ranks.
-#[inline(always)]
-pub(crate) fn number_of(bank: BankId) -> usize
-    requires rank { bank.rank < 4 }
-    requires group { bank.group < 4 }
-    requires bank { bank.bank < 4 }
-    ensures { result ≡ number_of bank }
-{
-    (bank.rank * 16 + bank.group * 4 + bank.bank) as usize
-}
-
 /// The number of a bank, if there is such a bank in a rank.
 #[inline(always)]
 #[tactic(auto, using(crate::proofs::Places::own_number, crate::proofs::Places::no_group, crate::proofs::Places::no_bank))]
@@ -135,7 +125,7 @@ pub(crate) fn own_number(bank: BankId) -> Option<usize>
     ensures inside { IfSome result (λ k. k < 16 * bank.rank + 16) }
 {
     if bank.group < 4 && bank.bank < 4 {
-        Some(number_of(bank))
+        Some(bank.number())
     } else {
         None
     }
@@ -155,7 +145,7 @@ fn raise_word(word: &mut Cycle, until: Cycle)
 #[inline(always)]
 pub(crate) fn raise<const N: usize>(words: &mut [Cycle], first: usize, until: Cycle)
     requires inside { first + N ≤ length words.old }
-    ensures inside { IsSpanRaised words.old words.new first N until }
+    ensures inside { IsRangeRaised words.old words.new first N until }
     ensures below { AreSameBefore words.old words.new first }
     ensures above { AreSameFrom words.old words.new (first + N) }
 {

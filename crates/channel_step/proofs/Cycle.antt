@@ -22,7 +22,7 @@ use Rattle.statistics.specs.declared.channels.ChannelStats.{ChannelStats}
 use Rattle.statistics.proofs.ChannelCounts.{AgreeUpTo-later, channel_stats-later}
 use Rattle.channel_step.specs.Past.{requests_of, CarriesRequest, IsOther, Differ, is_named, Past, commands_after, choice_after, with_mail}
 use Rattle.channel_step.specs.Fit.{IsUnnamed}
-use Rattle.channel_step.specs.Stands.{Recalls, HasJoined}
+use Rattle.channel_step.specs.Stands.{Recalls, HasArrivals}
 use Rattle.channel_step.proofs.Requests.{ArrivedBefore, requests-arrived, carries-stamped, queued_requests-arrivals}
 use Rattle.channel_step.proofs.Spans.{queue-next, drains-next, choice-next}
 use Rattle.channel_step.proofs.Marks.{unnamed-marks}
@@ -40,7 +40,7 @@ not_before now new h = Each-weaker (λ (m : Message). m.arrival ≡ now) (λ (m 
 -- when the requests of a cycle have joined
 pub joined : (queue : List Request) (drained : Bool) (marks : List Bool) (stats : ChannelStats) (past : Past) (new : List Message)
     → Recalls queue drained marks stats past → Arrives past new
-    → HasJoined (queue ++ requests_of new) (drains_with past.config drained (count_by (λ r. is_access access.Write r.access) (queue ++ requests_of new))) (marks ++ map (λ r. false) (requests_of new)) stats
+    → HasArrivals (queue ++ requests_of new) (drains_with past.config drained (count_by (λ r. is_access access.Write r.access) (queue ++ requests_of new))) (marks ++ map (λ r. false) (requests_of new)) stats
     (with_mail past new)
 joined queue drained marks stats past new h a =
     let now = length past.steps in
@@ -69,7 +69,7 @@ joined queue drained marks stats past new h a =
 
 -- what the channel then chooses
 pub joined-choice : (queue : List Request) (drained : Bool) (marks : List Bool) (stats : ChannelStats) (past : Past)
-    → HasJoined queue drained marks stats past
+    → HasArrivals queue drained marks stats past
     → choice_after past
     ≡ choice_between past.config (commands_after past) (length past.steps) (candidates past.config drained queue) (lowest_due past.config (commands_after past) (length past.steps))
 joined-choice queue drained marks stats past h = choice-next past.config past.channel past.steps past.mail queue drained (sym h.queue_is) (sym h.drained_is)
@@ -99,7 +99,7 @@ Differ-filter p (r ∷ rs) d = by (p r) (Differ-filter p rs d.1)
 
 -- the requests that wait are of different entries
 pub joined-differ : (queue : List Request) (drained : Bool) (marks : List Bool) (stats : ChannelStats) (past : Past)
-    → HasJoined queue drained marks stats past → Differ queue
+    → HasArrivals queue drained marks stats past → Differ queue
 unfolding queued_requests
 joined-differ queue drained marks stats past h =
     subst Differ (sym h.queue_is) (Differ-filter (is_queued (commands_after past) (length past.steps + 1)) (requests_of past.mail) h.differ)

@@ -22,6 +22,6 @@ drains-counted c s channel steps mail is stats =
     ∙ some-drains s _ (nat_lt 0 s.write_high) refl
     ∙ ap (λ (x : Config). nat_lt 0 x.write_high) (sym is)
 
--- so does one in a cycle
+-- a channel in a cycle counts cycles of draining where it ever drains
 pub counts-drains : (c : Channel) (past : Past) → IsInCycle c past → CountsDrains c
 counts-drains c past h = drains-counted c past.config past.channel past.steps past.mail h.made_for.config_is h.joined.stats_are

@@ -10,20 +10,20 @@ use Rattle.sim_base.proofs.Each.{Each-all, Each-first, Each-last, Each-append, E
 use Rattle.sim_base.proofs.Ordered.{Each-weaker}
 use Rattle.sim_base.proofs.Same.{choice-same}
 use Rattle.sim_base.specs.Counts.{source_in, queue_length}
-use Rattle.sim_base.specs.History.{is_before}
+use Rattle.sim_base.specs.History.{is_before, issued_now}
 use Rattle.sim_base.specs.Machine.{channel_run}
-use Rattle.sim_base.specs.Scheduling.{is_source, source_of, choice, queued_requests, is_queued}
+use Rattle.sim_base.specs.Scheduling.{is_source, source_of, choice, queued_requests, is_queued, queue_room}
 use Rattle.sim_base.specs.declared.command.Command.{Command}
 use Rattle.sim_base.specs.declared.command.IssuedCommand.{IssuedCommand}
 use Rattle.sim_base.specs.declared.command.Source.{Source}
 use Rattle.sim_base.specs.declared.message.Message.{Message}
 use Rattle.sim_base.specs.declared.message.Request.{Request}
-use Rattle.statistics.proofs.ChannelCounts.{AgreeUpTo-later, issued_now, issued_commands-push}
+use Rattle.statistics.proofs.ChannelCounts.{AgreeUpTo-later, issued_commands-push}
 use Rattle.statistics.specs.declared.channels.ChannelStats.{ChannelStats}
 use Rattle.channel_step.specs.Runs.{steps_on}
 use Rattle.channel_step.specs.Past.{requests_of, CarriesRequest, IsOther, Differ, Past, commands_after, choice_after, with_mail}
-use Rattle.channel_step.specs.Fit.{queue_room, is_of, is_named_by, IsUnnamed, ComeByAge, IsFit, IsFitAfter}
-use Rattle.channel_step.specs.Stands.{HasJoined}
+use Rattle.channel_step.specs.Fit.{is_of, is_named_by, IsUnnamed, ComeByAge, IsFit, IsFitAfter}
+use Rattle.channel_step.specs.Stands.{HasArrivals}
 use Rattle.channel_step.proofs.Requests.{carries-stamped, requests-append}
 use Rattle.channel_step.proofs.Spans.{channel_run-more, channel_run-first}
 use Rattle.channel_step.proofs.Chosen.{chosen-named}
@@ -93,7 +93,7 @@ fit-arrives past inbox now until at h =
       unnamed = Each-first (IsUnnamed (commands_after past)) (requests_of (take n inbox)) (requests_of (drop n inbox)) (subst (Each (IsUnnamed (commands_after past))) named h.unnamed);
     }
 
--- the others arrive later
+-- the messages of a fit inbox that do not arrive in the first cycle of the span arrive later
 pub fit-later : (past : Past) (inbox : List Message) (now until : ℕ) → length past.steps ≡ now → IsFitAfter past inbox now until
     → Each (CarriesRequest past.config past.channel) (drop (due_count inbox now) inbox) × NotBefore (length past.steps + 1) (drop (due_count inbox now) inbox)
 fit-later past inbox now until at h =
@@ -148,7 +148,7 @@ unnamed-next history channel now (Some command) rest h k = unnamed-both history 
 
 -- what is chosen in a cycle does not stand in the name of what arrives later
 chosen-not_later : (queue : List Request) (drained : Bool) (marks : List Bool) (stats : ChannelStats) (past : Past) (rest : List Request)
-    → HasJoined queue drained marks stats past → Each (λ (r : Request). Each (IsOther r) rest) (requests_of past.mail)
+    → HasArrivals queue drained marks stats past → Each (λ (r : Request). Each (IsOther r) rest) (requests_of past.mail)
     → IfSome (choice_after past) (λ c. IfSome (source_in c) (λ source. Each (λ (r : Request). is_source r source ≡ false) rest))
 unfolding queued_requests
 chosen-not_later queue drained marks stats past rest h k =
@@ -164,7 +164,7 @@ pub fit-rest : (queue : List Request) (drained : Bool) (marks : List Bool) (stat
     → length past.steps ≡ now → IsFitAfter past inbox now until
     → let new = take (due_count inbox now) inbox in
     let rest = drop (due_count inbox now) inbox in
-    HasJoined queue drained marks stats (with_mail past new)
+    HasArrivals queue drained marks stats (with_mail past new)
     → IsFit past.config past.channel (past.steps ++ choice past.config past.channel past.steps (past.mail ++ new) ∷ []) (past.mail ++ new) rest (now + 1) until
     × (choice past.config past.channel past.steps (past.mail ++ inbox) ≡ choice past.config past.channel past.steps (past.mail ++ new))
 fit-rest queue drained marks stats past inbox now until at h j =

@@ -32,7 +32,7 @@ foreseen-from s history queue from Unknown h = record { never = λ e. cc; at = �
 foreseen-from s history queue from (Known None) h = record { never = λ e. h; at = λ cycle choice e. cc }
 foreseen-from s history queue from (Known (Some next)) h = record { never = λ e. cc; at = λ cycle choice e. subst (IsNextCommand s history queue from) e h }
 
--- it is so from each later cycle on
+-- what is foreseen of the next command is so from each later cycle on
 next_command-later : (s : Config) (history : List IssuedCommand) (queue : QueueView) (from later : ℕ) (next_command : NextCommand) → from ≤ later → IsNextCommand s history queue from next_command → IsNextCommand s history queue later next_command
 next_command-later s history queue from later Unknown l h = tt
 next_command-later s history queue from later (Known None) l h = λ t m. h t (omega arith)
@@ -47,7 +47,7 @@ choice-drain_decided : (s : Config) (history : List IssuedCommand) (queue : Queu
 choice-drain_decided s history queue t =
     ap (λ d. choice_between s history t (candidates s d (waiting_requests queue.log)) (lowest_due s history t)) (sym (drain_decided-same queue))
 
--- and it is so for the queue when that is decided
+-- what is foreseen of the next command is so for the queue once its drain is decided
 next_command-drain_decided : (s : Config) (history : List IssuedCommand) (queue : QueueView) (from : ℕ) (next_command : NextCommand) → IsNextCommand s history queue from next_command → IsNextCommand s history (drain_decided queue) from next_command
 next_command-drain_decided s history queue from Unknown h = tt
 next_command-drain_decided s history queue from (Known None) h = λ t m. choice-drain_decided s history queue t ∙ h t m
@@ -140,7 +140,7 @@ taken-place (suc n) place [] l w = absurd (omega arith)
 taken-place (suc n) zero (a ∷ log) l w = (omega arith, w, refl)
 taken-place (suc n) (suc place) (a ∷ log) l w = let rest = taken-place n place log (omega arith) w in (omega (arith, rest.0), rest.1, rest.2)
 
--- so what was chosen for the first is chosen for all, and needs the same
+-- what was chosen among the first requests of a log is chosen among all, and needs the same
 pub taken-for : (n ranks : ℕ) (log earlier : List Arrived) (choice : Choice) → earlier ≡ take n log → IsFor ranks earlier choice → IsFor ranks log choice
 taken-for n ranks log earlier (chosen.Request place) is h =
     let k = subst (λ x. (place < length x) × (waits_at x place ≡ true)) is h in

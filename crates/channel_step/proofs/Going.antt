@@ -8,7 +8,7 @@ use Rattle.sim_base.proofs.Added.{channel_messages-push}
 use Rattle.sim_base.proofs.Ordered.{Each-weaker}
 use Rattle.sim_base.specs.declared.config.Config.{Config}
 use Rattle.sim_base.specs.Counts.{queue_length}
-use Rattle.sim_base.specs.History.{is_before, issued_commands, channel_messages, messages_at}
+use Rattle.sim_base.specs.History.{is_before, issued_commands, channel_messages, messages_at, issued_now}
 use Rattle.sim_base.specs.Machine.{channel_run}
 use Rattle.sim_base.specs.Scheduling.{choice}
 use Rattle.sim_base.specs.declared.command.Command.{Command}
@@ -18,10 +18,10 @@ use Rattle.statistics.proofs.ChannelCounts.{AgreeUpTo-later, issued_commands-pus
 use Rattle.channel_step.specs.Past.{requests_of, CarriesRequest, past_of, Past, commands_after, choice_after, with_mail}
 use Rattle.channel_step.specs.Fit.{IsUnnamed, ComeByAge, IsFit, IsIdle, IsFitAfter}
 use Rattle.queue.specs.Log.{waiting_requests}
-use Rattle.channel_step.specs.Queued.{marks_in}
-use Rattle.channel_step.specs.Stands.{HasJoined}
+use Rattle.channel_step.specs.Queued.{activated_in}
+use Rattle.channel_step.specs.Stands.{HasArrivals}
 use Rattle.channel_step.specs.Channels.{StandsFor, IsInCycle, IsNextIn}
-use Rattle.channel_step.specs.Runs.{issued_in, first_arrival, HasRun, steps_on}
+use Rattle.channel_step.specs.Runs.{first_arrival, HasRun, steps_on}
 use Rattle.channel_step.specs.declared.channel.Channel.{Channel}
 use Rattle.channel_step.proofs.Requests.{carries-stamped}
 use Rattle.channel_step.proofs.Running.{rest_of}
@@ -36,7 +36,7 @@ arrive-from next until [] h l = tt
 arrive-from next until (m ∷ ms) h l =
     (l, Each-weaker (λ (n : Message). is_before m n ≡ true) (λ (n : Message). next ≤ n.arrival) (λ n k. omega (arith, before_le m n k)) ms h.0)
 
--- and that arrives within the span
+-- the first message of an inbox arrives within the span
 arrival-within : (now until : ℕ) (inbox : List Message) → now ≤ until → Each (λ (m : Message). (now ≤ m.arrival) × (m.arrival < until)) inbox
     → (now ≤ first_arrival inbox until) × (first_arrival inbox until ≤ until)
 arrival-within now until [] l h = (l, omega arith)
@@ -82,7 +82,7 @@ pub record Goes (past : Past) (inbox : List Message) (now until n end : ℕ) : T
   pub end_is : end ≡ first_arrival (drop n inbox) until
   pub carry : Each (CarriesRequest past.config past.channel) (past.mail ++ take n inbox)
 
--- the others arrive later
+-- the messages that a channel has not taken in on its way to the next arrival arrive later
 goes-late : (past : Past) (inbox : List Message) (now until n end : ℕ) → Goes past inbox now until n end
     → Each (λ (m : Message). now + 1 ≤ m.arrival) (drop n inbox)
 goes-late past inbox now until n end h =
@@ -155,8 +155,8 @@ act-fit c past inbox now until command h at f late is =
     let same : past.mail ++ take n inbox ≡ past.mail = ap (λ k. past.mail ++ take k inbox) none ∙ append-nil past.mail in
     let q = c.queue in
     let left =
-    fit-rest (waiting_requests q.log) q.drain_decided (marks_in q.log) c.stats past inbox now until at f
-    (subst (λ m. HasJoined (waiting_requests q.log) q.drain_decided (marks_in q.log) c.stats (past_of past.config past.channel past.steps m)) (sym same) h.joined) in
+    fit-rest (waiting_requests q.log) q.drain_decided (activated_in q.log) c.stats past inbox now until at f
+    (subst (λ m. HasArrivals (waiting_requests q.log) q.drain_decided (activated_in q.log) c.stats (past_of past.config past.channel past.steps m)) (sym same) h.joined) in
     let chosen : choice past.config past.channel past.steps (past.mail ++ take n inbox) ≡ Some command = ap (choice past.config past.channel past.steps) same ∙ sym is in (
       left.1 ∙ chosen,
       subst (λ o. IsFit past.config past.channel (past.steps ++ o ∷ []) past.mail inbox (now + 1) until) chosen
@@ -169,7 +169,7 @@ pub acts : (c d : Channel) (past : Past) (inbox : List Message) (now until n end
     → IsNextIn (with_mail past (take n inbox)) end cycle command
     → IsInCycle c (past_of past.config past.channel (past.steps ++ replicate (cycle - length past.steps) None) (past.mail ++ take n inbox))
     → StandsFor d past.config past.channel ((past.steps ++ replicate (cycle - length past.steps) None) ++ Some command ∷ []) (past.mail ++ take n inbox)
-    → HasRun d past inbox now (cycle + 1) until n (issued_in past.channel cycle (Some command)) (messages_at past.config past.channel cycle (Some command))
+    → HasRun d past inbox now (cycle + 1) until n (issued_now past.channel cycle (Some command)) (messages_at past.config past.channel cycle (Some command))
 acts c d past inbox now until n end cycle command h i in_cycle stands =
     let at = h.at in
     let from = i.from_now in
@@ -196,13 +196,13 @@ acts c d past inbox now until n end cycle command h i in_cycle stands =
       some = goes-some past inbox now until n end h;
       commands_are =
           ap (issued_commands past.channel) rows_are ∙ issued_commands-push past.channel then o
-          ∙ ap₂ (λ x j. x ++ issued_in past.channel j o) (idle-issued past.channel past.steps k) len;
+          ∙ ap₂ (λ x j. x ++ issued_now past.channel j o) (idle-issued past.channel past.steps k) len;
       messages_are =
           ap (channel_messages past.config past.channel) rows_are ∙ channel_messages-push past.config past.channel then o
           ∙ ap₂ (λ x j. x ++ messages_at past.config past.channel j o) (idle-messages past.config past.channel past.steps k) len;
     }
 
--- a channel that has taken in what arrives in a cycle is on such a way
+-- a channel that has taken in what arrives in a cycle is on its way to the next arrival
 pub goes : (d : Channel) (past : Past) (inbox : List Message) (now until n end : ℕ) → IsInCycle d (with_mail past (take n inbox)) → length past.steps ≡ now
     → IsFitAfter past inbox now until → now < until → n ≡ length (take_while (λ (m : Message). eqb m.arrival now) inbox) → end ≡ first_arrival (rest_of inbox n) until
     → Goes past inbox now until n end

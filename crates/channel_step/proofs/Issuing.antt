@@ -8,9 +8,9 @@ use Rattle.std.proofs.lemmas.List.Elements.{All-from_recursion}
 use Rattle.sim_base.proofs.Ordered.{Each-weaker}
 use Rattle.sim_base.specs.declared.config.Config.{Config}
 use Rattle.sim_base.specs.Counts.{queued_max}
-use Rattle.sim_base.specs.History.{issued_at, issued_commands, messages_of}
+use Rattle.sim_base.specs.History.{issued_at, issued_commands, messages_of, issued_now}
 use Rattle.sim_base.specs.Rules.{rank_of, row_after, open_row}
-use Rattle.sim_base.specs.Scheduling.{choice, choice_between, candidates, lowest_due, due, drains, queued_requests, serves, refresh_command}
+use Rattle.sim_base.specs.Scheduling.{choice, choice_between, candidates, lowest_due, due, drains, queued_requests, serves, refresh_command, queue_room}
 use Rattle.sim_base.specs.declared.command.Command.{Command}
 use Rattle.sim_base.specs.declared.command.Command.TheVariants.{Act, Rd, Wr, Pre, Prea, Ref}
 use Rattle.sim_base.specs.declared.command.IssuedCommand.{IssuedCommand}
@@ -31,21 +31,20 @@ use Rattle.statistics.proofs.ChannelChoices.{choice-not_late}
 use Rattle.queue.specs.declared.request_log.Arrived.{Arrived}
 use Rattle.queue.specs.Log.{waiting_requests, all_requests}
 use Rattle.queue.specs.declared.bank_candidates.all_banks.BankCandidates.{BankCandidates}
-use Rattle.queue.specs.Candidates.{bank_at}
+use Rattle.sim_base.specs.Places.{bank_at}
 use Rattle.queue.specs.Stands.{bank_count, StandsFor as CandidatesStandFor}
 use Rattle.queue.proofs.Stood.{same_rows}
 use Rattle.channel_step.specs.FrFcfs.Requests.{IsInBanks}
 use Rattle.request_table.specs.declared.served_requests.ServedRequest.{ServedRequest}
 use Rattle.channel_step.specs.Past.{Past, commands_after, choice_after}
-use Rattle.channel_step.specs.Fit.{queue_room}
-use Rattle.channel_step.specs.Stands.{marks_of}
-use Rattle.channel_step.specs.Queued.{marks_in}
+use Rattle.channel_step.specs.Stands.{activated_of}
+use Rattle.channel_step.specs.Queued.{activated_in}
 use Rattle.channel_step.specs.Counted.{cycle_with_hit}
 use Rattle.channel_step.specs.Owed.{RefIsOwed}
-use Rattle.channel_step.specs.Runs.{issued_in, with_more, HasIssued}
+use Rattle.channel_step.specs.Runs.{with_more, HasIssued}
 use Rattle.std.proofs.lemmas.List.{append-nil}
 use Rattle.channel_step.specs.Channels.{CandidatesStand, KeepsServed, StandsFor, IsInCycle, CountsDrains, seen_of, seen_with}
-use Rattle.channel_step.specs.Readied.{row_of, IsReadied, seen_after}
+use Rattle.channel_step.specs.Readied.{as_issued, IsReadied, seen_after}
 use Rattle.channel_step.specs.declared.counting.Seen.{Seen}
 use Rattle.channel_step.specs.declared.next_command.NextCommand.TheVariants.{Unknown}
 use Rattle.channel_step.specs.declared.channel.Channel.{Channel}
@@ -62,15 +61,15 @@ use Rattle.channel_step.proofs.Places.{queue-ranks}
 pub readied : (c : Channel) (past : Past) (command : Command) (hit : Bool) (log : List Arrived) (bank_candidates : BankCandidates) (served : Option (Vec ServedRequest Global))
     → IsInCycle c past → Some command ≡ choice_after past → issues_hit (commands_after past) (Some command) ≡ hit
     → all_requests log ≡ all_requests c.queue.log → waiting_requests log ≡ unserved_by command (waiting_requests c.queue.log)
-    → marks_in log ≡ marks_of (commands_after past ++ row_of past.channel (length past.steps) command ∷ []) (waiting_requests log)
+    → activated_in log ≡ activated_of (commands_after past ++ as_issued past.channel (length past.steps) command ∷ []) (waiting_requests log)
     → bank_count bank_candidates ≡ bank_count c.bank_candidates
     → CandidatesStandFor bank_candidates log (λ bank. row_after (bank_at bank) (open_row (bank_at bank) (commands_after past)) command)
-    → KeepsServed served (commands_after past ++ row_of past.channel (length past.steps) command ∷ []) past.mail
+    → KeepsServed served (commands_after past ++ as_issued past.channel (length past.steps) command ∷ []) past.mail
     → IsReadied (record c { queue = record c.queue { log = log }; bank_candidates = bank_candidates; served = served }) past command hit
 readied c past command hit log bank_candidates served h chosen hit_is all left marks count stands keeps =
     let j = h.joined in
     let history = commands_after past in
-    let row = row_of past.channel (length past.steps) command in
+    let row = as_issued past.channel (length past.steps) command in
     let some : length (waiting_requests c.queue.log) ≤ queue_room past.config = h.made_for.within in
     let fewer : length (waiting_requests log) ≤ length (waiting_requests c.queue.log) = omega (arith, ap length left, length-filter-le (λ r. not (serves r command)) (waiting_requests c.queue.log)) in
     record {
@@ -137,7 +136,7 @@ counted-is c past command hit seen h e =
     ∙ ap₂ channel_joined h.stats_are (sym (cycle-with past.config past.channel past.steps past.mail o))
     ∙ sym (channel_stats-push past.config past.channel past.steps o past.mail (late-none past.config past.channel past.steps past.mail command h.chosen))
 
--- it fits, since a cycle and the greatest length of the queue do
+-- what is counted of a cycle fits, since a cycle and the greatest length of the queue do
 pub counted-fits : (c : Channel) (past : Past) (command : Command) (hit : Bool) (seen : Seen) → IsReadied c past command hit
     → seen ≡ seen_after past → c.cycle < 2 ^ 62
     → ChannelFits (channel_joined c.stats (cycle_with_hit c.config seen.queued seen.refreshing seen.draining (Some command) hit))
@@ -160,15 +159,15 @@ readied-drains c past command hit h = drains-counted c past.config past.channel 
 -- what it stands for when the command is noted and counted
 pub issued-stands : (c : Channel) (past : Past) (command : Command) (hit : Bool) (seen : Seen) (banks : Banks) (refresh : RefreshCounts)
     → IsReadied c past command hit → seen ≡ seen_after past
-    → BanksStandFor banks past.config (commands_after past ++ row_of past.channel c.cycle command ∷ [])
-    → RefreshesStandFor refresh past.config (commands_after past ++ row_of past.channel c.cycle command ∷ [])
+    → BanksStandFor banks past.config (commands_after past ++ as_issued past.channel c.cycle command ∷ [])
+    → RefreshesStandFor refresh past.config (commands_after past ++ as_issued past.channel c.cycle command ∷ [])
     → StandsFor (record c { cycle = c.cycle + 1; banks = banks; refresh = refresh; next_command = Unknown; stats = channel_joined c.stats (cycle_with_hit c.config seen.queued seen.refreshing seen.draining (Some command) hit) })
     past.config past.channel (past.steps ++ Some command ∷ []) past.mail
 issued-stands c past command hit seen banks refresh h e b r =
     let o = Some command in
     let now = length past.steps in
     let history = commands_after past in
-    let row = row_of past.channel now command in
+    let row = as_issued past.channel now command in
     let issued : issued_commands past.channel (past.steps ++ o ∷ []) ≡ history ++ row ∷ [] = issued_commands-push past.channel past.steps o in
     let len : length (past.steps ++ o ∷ []) ≡ suc now = length-push_suc past.steps o in
     let one : now + 1 ≡ suc now = add-one now in
@@ -197,12 +196,12 @@ issued-stands c past command hit seen banks refresh h e b r =
         };
         queue_is = h.queue_is ∙ ap₂ (λ x u. queued_requests x past.mail u) (sym issued) (one ∙ sym len);
         drained_is = h.drained_is ∙ sym (drains_before-row past.config past.channel past.steps o past.mail);
-        marks_are = h.marks_are ∙ ap (λ x. marks_of x (waiting_requests c.queue.log)) (sym issued);
+        marks_are = h.marks_are ∙ ap (λ x. activated_of x (waiting_requests c.queue.log)) (sym issued);
         stats_are = counted-is c past command hit seen h e;
       };
       candidates_stand = subst (CandidatesStand c.bank_candidates c.queue.log) (sym issued) h.candidates_stand;
-      banks_stand = subst (BanksStandFor banks past.config) (sym issued) (subst (λ k. BanksStandFor banks past.config (history ++ row_of past.channel k command ∷ [])) h.cycle_is b);
-      refreshes_stand = subst (RefreshesStandFor refresh past.config) (sym issued) (subst (λ k. RefreshesStandFor refresh past.config (history ++ row_of past.channel k command ∷ [])) h.cycle_is r);
+      banks_stand = subst (BanksStandFor banks past.config) (sym issued) (subst (λ k. BanksStandFor banks past.config (history ++ as_issued past.channel k command ∷ [])) h.cycle_is b);
+      refreshes_stand = subst (RefreshesStandFor refresh past.config) (sym issued) (subst (λ k. RefreshesStandFor refresh past.config (history ++ as_issued past.channel k command ∷ [])) h.cycle_is r);
       foresees = foreseen-unknown past.config (issued_commands past.channel (past.steps ++ o ∷ [])) c.queue (c.cycle + 1);
       keeps_served = subst (λ x. KeepsServed c.served x past.mail) (sym issued) h.keeps_served;
     }
@@ -210,11 +209,11 @@ issued-stands c past command hit seen banks refresh h e b r =
 -- what is told of it when it has issued the command
 pub has-issued : (c d : Channel) (past : Past) (command issued : Command) (hit : Bool) (commands commands_then : Option (List IssuedCommand)) (messages messages_then : List Message)
     → IsReadied c past issued hit → issued ≡ command → StandsFor d past.config past.channel (past.steps ++ Some issued ∷ []) past.mail
-    → commands_then ≡ with_more commands (issued_in c.number c.cycle (Some issued)) → messages_then ≡ messages ++ messages_of past.config past.channel (length past.steps) command
+    → commands_then ≡ with_more commands (issued_now c.number c.cycle (Some issued)) → messages_then ≡ messages ++ messages_of past.config past.channel (length past.steps) command
     → HasIssued d past command commands commands_then messages messages_then
 has-issued c d past command issued hit commands commands_then messages messages_then h is stands told sent = record {
   stands = subst (λ z. StandsFor d past.config past.channel (past.steps ++ Some z ∷ []) past.mail) is stands;
-  commands_are = told ∙ ap₂ (λ number t. with_more commands (issued_in number t (Some issued))) h.made_for.number_is h.cycle_is ∙ ap (λ z. with_more commands (issued_in past.channel (length past.steps) (Some z))) is;
+  commands_are = told ∙ ap₂ (λ number t. with_more commands (issued_now number t (Some issued))) h.made_for.number_is h.cycle_is ∙ ap (λ z. with_more commands (issued_now past.channel (length past.steps) (Some z))) is;
   messages_are = sent;
 }
 
@@ -259,7 +258,7 @@ chosen-is : (s : Config) (channel : ℕ) (steps : List (Option Command)) (mail :
     (lowest_due s (issued_commands channel steps) (length steps))
 chosen-is s channel steps mail command e = e ∙ choice-next s channel steps mail _ _ refl refl
 
--- it speaks of a rank that there is
+-- a command that a channel issues is for a rank that exists
 pub command-rank : (c : Channel) (past : Past) (command : Command) (hit : Bool) → IsReadied c past command hit
     → rank_of command < rank_count c.banks
 command-rank c past command hit h =
@@ -270,7 +269,7 @@ command-rank c past command hit h =
     (chosen-rank past.config history (length past.steps) _ queue (queue-ranks past.config past.channel history past.mail (length past.steps + 1) queue h.requests refl)) in
     omega (arith, h.banks_stand.ranks)
 
--- and if it is a REF, that is due
+-- a REF that a channel issues is due
 pub command-owed : (c : Channel) (past : Past) (command : Command) (hit : Bool) → IsReadied c past command hit
     → RefIsOwed c.refresh c.cycle command
 command-owed c past command hit h =

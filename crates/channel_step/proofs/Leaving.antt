@@ -1,11 +1,12 @@
 -- What is left of a log, and of the marks of those that wait, when one is served or an ACT is issued in its name.
-use Rattle.std.proofs.Common.{◌≡◌, ℕ, zero, suc, ◌<◌, Bool, true, false, cond, ◌||◌, List, [], ◌∷◌, length, get_or, take, map, Some, sym, ap, ap₂, subst, ◌∙◌, arith}
+use Rattle.std.proofs.Common.{◌≡◌, ℕ, zero, suc, ◌<◌, Bool, true, false, cond, ◌||◌, List, [], ◌∷◌, length, get_or, take, map, Some, sym, ap, ap₂, ◌∙◌, arith}
 use Rattle.std.specs.Prelude.{slice_get}
 use Rattle.std.specs.List.{All, AllByRecursion as Each}
 use Rattle.std.proofs.lemmas.Bool.{true≢false}
 use Rattle.std.proofs.lemmas.Option.{slice_get-get_or}
 use Rattle.std.proofs.lemmas.List.Elements.{All-from_recursion, recursion_from_All}
 use Rattle.std.proofs.Math.Bool.{or-false, or-true}
+use Rattle.sim_base.proofs.Each.{Each-get}
 use Rattle.sim_base.proofs.Ordered.{Each-weaker}
 use Rattle.sim_base.specs.Scheduling.{is_source, source_of, column_command}
 use Rattle.sim_base.specs.declared.message.Request.{Request}
@@ -14,7 +15,7 @@ use Rattle.queue.specs.declared.request_log.Arrived.{Arrived}
 use Rattle.queue.specs.Log.{absent, waiting, waiting_requests, all_requests, served_at, activated_at, waits_at}
 use Rattle.queue.proofs.Places.{waiting_at, waiting_within, waiting_served}
 use Rattle.channel_step.specs.Past.{IsOther, Differ}
-use Rattle.channel_step.specs.Queued.{marks_in, request_at}
+use Rattle.channel_step.specs.Queued.{activated_in, request_at}
 use Rattle.channel_step.proofs.Requests.{unserved_by, same_source, own_source}
 use Rattle.channel_step.proofs.Marks.{map-agree, served-remove}
 
@@ -25,43 +26,38 @@ request-waits log place l w =
     let i = length (waiting_requests (take place log)) in
     slice_get-get_or (waiting_requests log) i (request_at log place) (waiting_within log place l w) ∙ ap Some (waiting_at log place (request_at log place) l w)
 
-Each-get : {X : Type 0} (P : X → Type 0) (xs : List X) (k : ℕ) (x : X) → slice_get xs k ≡ Some x → Each P xs → P x
-Each-get P [] k x e h = absurd (cc)
-Each-get P (y ∷ ys) zero x e h = let same : y ≡ x = cc in subst P same h.0
-Each-get P (y ∷ ys) (suc k) x e h = Each-get P ys k x e h.1
-
--- so what holds of each that waits holds of it
+-- what holds of each request that waits holds of the one at a place
 pub at-waiting : (P : Request → Type 0) (log : List Arrived) (place : ℕ) → place < length log → waits_at log place ≡ true → Each P (waiting_requests log) → P (request_at log place)
 at-waiting P log place l w h = Each-get P (waiting_requests log) (length (waiting_requests (take place log))) (request_at log place) (request-waits log place l w) h
 
--- the others are left when it is served
+-- the other requests are left when one is served
 pub served-waits : (log : List Arrived) (place : ℕ) → place < length log → waits_at log place ≡ true → Differ (waiting_requests log)
     → waiting_requests (served_at log place) ≡ unserved_by (column_command (request_at log place)) (waiting_requests log)
 served-waits log place l w d =
     waiting_served log place l w
     ∙ sym (served-remove (waiting_requests log) (length (waiting_requests (take place log))) (request_at log place) d (request-waits log place l w))
 
--- their marks stay
-pub served-marks : (g : Request → Bool) (log : List Arrived) (place : ℕ) → marks_in log ≡ map g (waiting_requests log) → marks_in (served_at log place) ≡ map g (waiting_requests (served_at log place))
+-- the marks of the other requests stay when one is served
+pub served-marks : (g : Request → Bool) (log : List Arrived) (place : ℕ) → activated_in log ≡ map g (waiting_requests log) → activated_in (served_at log place) ≡ map g (waiting_requests (served_at log place))
 unfolding waiting
 served-marks g [] place h = h
 served-marks g (a ∷ log) zero h = by a.waits h
   where
     by : (b : Bool) → map (λ (x : Arrived). x.activated) (cond b (a ∷ waiting log) (waiting log)) ≡ map g (map (λ (x : Arrived). x.request) (cond b (a ∷ waiting log) (waiting log)))
-        → marks_in log ≡ map g (waiting_requests log)
+        → activated_in log ≡ map g (waiting_requests log)
     by true e = tails _ _ _ _ e
     by false e = e
 served-marks g (a ∷ log) (suc place) h = by a.waits (served-marks g log place) h
   where
-    by : (b : Bool) → (marks_in log ≡ map g (waiting_requests log) → marks_in (served_at log place) ≡ map g (waiting_requests (served_at log place)))
+    by : (b : Bool) → (activated_in log ≡ map g (waiting_requests log) → activated_in (served_at log place) ≡ map g (waiting_requests (served_at log place)))
         → map (λ (x : Arrived). x.activated) (cond b (a ∷ waiting log) (waiting log)) ≡ map g (map (λ (x : Arrived). x.request) (cond b (a ∷ waiting log) (waiting log)))
         → map (λ (x : Arrived). x.activated) (cond b (a ∷ waiting (served_at log place)) (waiting (served_at log place)))
         ≡ map g (map (λ (x : Arrived). x.request) (cond b (a ∷ waiting (served_at log place)) (waiting (served_at log place))))
     by true later e = ap₂ (λ x xs. x ∷ xs) (heads _ _ _ _ e) (later (tails _ _ _ _ e))
     by false later e = later e
 
--- its mark is there as well
-pub mark-at : (g : Request → Bool) (log : List Arrived) (place : ℕ) → place < length log → waits_at log place ≡ true → marks_in log ≡ map g (waiting_requests log)
+-- the request at a place that waits has its mark
+pub mark-at : (g : Request → Bool) (log : List Arrived) (place : ℕ) → place < length log → waits_at log place ≡ true → activated_in log ≡ map g (waiting_requests log)
     → (get_or log place absent).activated ≡ g (request_at log place)
 unfolding waiting
 mark-at g [] place l w h = absurd (omega arith)
@@ -73,15 +69,15 @@ mark-at g (a ∷ log) zero l w h = by a.waits w h
     by false w e = absurd (true≢false (sym w))
 mark-at g (a ∷ log) (suc place) l w h = by a.waits (mark-at g log place (omega arith) w) h
   where
-    by : (b : Bool) → (marks_in log ≡ map g (waiting_requests log) → (get_or log place absent).activated ≡ g (request_at log place))
+    by : (b : Bool) → (activated_in log ≡ map g (waiting_requests log) → (get_or log place absent).activated ≡ g (request_at log place))
         → map (λ (x : Arrived). x.activated) (cond b (a ∷ waiting log) (waiting log)) ≡ map g (map (λ (x : Arrived). x.request) (cond b (a ∷ waiting log) (waiting log)))
         → (get_or log place absent).activated ≡ g (request_at log place)
     by true later e = later (tails _ _ _ _ e)
     by false later e = later e
 
 -- an ACT in its name marks it, and no other one
-pub activated-marks : (g : Request → Bool) (log : List Arrived) (place : ℕ) → place < length log → waits_at log place ≡ true → Differ (waiting_requests log) → marks_in log ≡ map g (waiting_requests log)
-    → marks_in (activated_at log place) ≡ map (λ r. g r || is_source r (source_of (request_at log place))) (waiting_requests log)
+pub activated-marks : (g : Request → Bool) (log : List Arrived) (place : ℕ) → place < length log → waits_at log place ≡ true → Differ (waiting_requests log) → activated_in log ≡ map g (waiting_requests log)
+    → activated_in (activated_at log place) ≡ map (λ r. g r || is_source r (source_of (request_at log place))) (waiting_requests log)
 unfolding waiting
 activated-marks g [] place l w d h = absurd (omega arith)
 activated-marks g (a ∷ log) zero l w d h = by a.waits w d h
@@ -99,8 +95,8 @@ activated-marks g (a ∷ log) zero l w d h = by a.waits w d h
 activated-marks g (a ∷ log) (suc place) l w d h = by a.waits (activated-marks g log place (omega arith) w) d h
   where
     by : (b : Bool)
-        → (Differ (waiting_requests log) → marks_in log ≡ map g (waiting_requests log)
-        → marks_in (activated_at log place) ≡ map (λ r. g r || is_source r (source_of (request_at log place))) (waiting_requests log))
+        → (Differ (waiting_requests log) → activated_in log ≡ map g (waiting_requests log)
+        → activated_in (activated_at log place) ≡ map (λ r. g r || is_source r (source_of (request_at log place))) (waiting_requests log))
         → Differ (map (λ (x : Arrived). x.request) (cond b (a ∷ waiting log) (waiting log)))
         → map (λ (x : Arrived). x.activated) (cond b (a ∷ waiting log) (waiting log)) ≡ map g (map (λ (x : Arrived). x.request) (cond b (a ∷ waiting log) (waiting log)))
         → map (λ (x : Arrived). x.activated) (cond b (a ∷ waiting (activated_at log place)) (waiting (activated_at log place)))

@@ -7,9 +7,9 @@ use Rattle.std.proofs.lemmas.List.Elements.{All-from_recursion, filter-append}
 use Rattle.sim_base.specs.declared.message.Request.{Request}
 use Rattle.queue.specs.declared.request_log.Arrived.{Arrived}
 use Rattle.queue.specs.Log.{waiting, waiting_requests, all_requests, arrived_now}
-use Rattle.channel_step.specs.Queued.{marks_in}
+use Rattle.channel_step.specs.Queued.{activated_in}
 
--- those that have just arrived wait
+-- requests that have just arrived wait
 waiting-new : (new : List Request) → waiting (map arrived_now new) ≡ map arrived_now new
 unfolding waiting
 waiting-new [] = refl
@@ -37,11 +37,11 @@ waiting-with log new =
 pub all-with : (log : List Arrived) (new : List Request) → all_requests (log ++ map arrived_now new) ≡ all_requests log ++ new
 all-with log new = map-append (λ (a : Arrived). a.request) log (map arrived_now new) ∙ ap (λ x. all_requests log ++ x) (requests-new new)
 
-pub marks-with : (log : List Arrived) (new : List Request) → marks_in (log ++ map arrived_now new) ≡ marks_in log ++ map (λ r. false) new
+pub marks-with : (log : List Arrived) (new : List Request) → activated_in (log ++ map arrived_now new) ≡ activated_in log ++ map (λ r. false) new
 marks-with log new =
     ap (map (λ (a : Arrived). a.activated)) (waiting-joined log new)
     ∙ map-append (λ (a : Arrived). a.activated) (waiting log) (map arrived_now new)
-    ∙ ap (λ x. marks_in log ++ x) (marks-new new)
+    ∙ ap (λ x. activated_in log ++ x) (marks-new new)
 
 new-wait : (new : List Request) → Each (λ (a : Arrived). a.waits ≡ true) (map arrived_now new)
 new-wait [] = tt

@@ -17,7 +17,7 @@ use Rattle.sim_base.specs.declared.place.BankId.{BankId}
 use Rattle.sim_base.proofs.Accesses.{column_both}
 use Rattle.sim_base.proofs.Each.{Each-all}
 use Rattle.sim_base.proofs.Lists.{filter-each, filter-agree}
-use Rattle.channel_step.specs.Stands.{marks_of}
+use Rattle.channel_step.specs.Stands.{activated_of}
 use Rattle.channel_step.specs.Past.{Differ, is_named}
 use Rattle.channel_step.specs.Fit.{is_named_by, IsUnnamed}
 use Rattle.channel_step.proofs.Requests.{unserved_by, unserved-remove}
@@ -39,10 +39,10 @@ pub unnamed-no_mark : (history : List IssuedCommand) (r : Request) → IsUnnamed
 unnamed-no_mark [] r h = refl
 unnamed-no_mark (i ∷ history) r h = ap₂ (λ a b. a || b) (act-named r i.command h.0) (unnamed-no_mark history r h.1)
 
-pub unnamed-marks : (history : List IssuedCommand) (rs : List Request) → Each (IsUnnamed history) rs → marks_of history rs ≡ map (λ r. false) rs
+pub unnamed-marks : (history : List IssuedCommand) (rs : List Request) → Each (IsUnnamed history) rs → activated_of history rs ≡ map (λ r. false) rs
 unnamed-marks history rs h = map-agree (is_named history) (λ r. false) rs (Each-weaker (IsUnnamed history) _ (unnamed-no_mark history) rs h)
 
--- one command more may name it
+-- one command more may name a request
 pub named-command : (history : List IssuedCommand) (i : IssuedCommand) (r : Request) → is_named (history ++ i ∷ []) r ≡ (is_named history r || is_act_for (source_of r) i.command)
 named-command history i r =
     list_any-append (λ (j : IssuedCommand). is_act_for (source_of r) j.command) history (i ∷ [])
@@ -65,15 +65,15 @@ no_act source (Pre bank other) h = refl
 no_act source (Prea rank) h = refl
 no_act source (Ref rank) h = refl
 
--- it leaves the marks as they are
-pub marks-no_act : (history : List IssuedCommand) (i : IssuedCommand) (rs : List Request) → opens_none i.command ≡ true → marks_of (history ++ i ∷ []) rs ≡ marks_of history rs
+-- a command that opens no row leaves the marks as they are
+pub marks-no_act : (history : List IssuedCommand) (i : IssuedCommand) (rs : List Request) → opens_none i.command ≡ true → activated_of (history ++ i ∷ []) rs ≡ activated_of history rs
 marks-no_act history i rs h =
     map-agree (is_named (history ++ i ∷ [])) (is_named history) rs
     (Each-all _ (λ r. named-command history i r ∙ ap (λ b. is_named history r || b) (no_act (source_of r) i.command h) ∙ or-false (is_named history r)) rs)
 
 -- an ACT adds the mark of the request of its entry
 pub marks-act : (history : List IssuedCommand) (i : IssuedCommand) (rs : List Request) (bank : BankId) (row : ℕ) (source : Source) → i.command ≡ Act bank row source
-    → marks_of (history ++ i ∷ []) rs ≡ map (λ r. is_named history r || is_source r source) rs
+    → activated_of (history ++ i ∷ []) rs ≡ map (λ r. is_named history r || is_source r source) rs
 marks-act history i rs bank row source e =
     map-agree (is_named (history ++ i ∷ [])) (λ r. is_named history r || is_source r source) rs
     (Each-all _ (λ r. named-command history i r ∙ ap (λ c. is_named history r || is_act_for (source_of r) c) e) rs)
@@ -87,7 +87,7 @@ column_either P r rd wr = column_both P r.access _ _ _ _ (λ f. rd) (λ f. wr)
 pub serves-column : (q r : Request) → serves q (column_command r) ≡ is_source q (source_of r)
 serves-column q r = column_either (λ c. serves q c ≡ is_source q (source_of r)) r refl refl
 
--- so it takes just one out of the queue
+-- the column command of a request takes just this request out of the queue
 pub served-remove : (rs : List Request) (i : ℕ) (r : Request) → Differ rs → slice_get rs i ≡ Some r → unserved_by (column_command r) rs ≡ remove rs i
 served-remove rs i r d e =
     filter-agree (λ q. not (serves q (column_command r))) (λ q. not (is_source q (source_of r))) rs (Each-all _ (λ q. ap not (serves-column q r)) rs)
@@ -102,7 +102,7 @@ serves_none r (Pre bank source) h = refl
 serves_none r (Prea rank) h = refl
 serves_none r (Ref rank) h = refl
 
--- so it takes none out
+-- a command that is no column command takes no request out of the queue
 pub served-none : (rs : List Request) (command : Command) → is_column_command command ≡ false → unserved_by command rs ≡ rs
 served-none rs command h = filter-each (λ q. not (serves q command)) rs (Each-all _ (λ q. ap not (serves_none q command h)) rs)
 

@@ -8,7 +8,7 @@ use Rattle.std.proofs.lemmas.Bool.{cond-true, cond-false, eq-eqb, ne_eqb}
 use Rattle.sim_base.specs.declared.config.Config.{Config}
 use Rattle.sim_base.specs.Counts.{is_hit}
 use Rattle.sim_base.specs.History.{issued_commands}
-use Rattle.sim_base.specs.Places.{bank_in}
+use Rattle.sim_base.specs.Places.{bank_in, bank_at, number_of_bank}
 use Rattle.sim_base.specs.Rules.{row_after, open_row}
 use Rattle.sim_base.specs.Scheduling.{choice, source_of, column_command, is_column_command, needed, needed_at}
 use Rattle.sim_base.specs.declared.command.Command.{Command}
@@ -20,19 +20,18 @@ use Rattle.queue.specs.Log.{absent, waiting_requests, served_at, activated_at, w
 use Rattle.queue.proofs.Activated.{all_activated, waiting_activated}
 use Rattle.queue.proofs.Places.{all_served}
 use Rattle.queue.specs.declared.bank_candidates.all_banks.BankCandidates.{BankCandidates}
-use Rattle.queue.specs.Candidates.{bank_at, number_of}
-use Rattle.queue.specs.Stands.{bank_count, IsAmong, with_row, closed_in, StandsFor as CandidatesStandFor}
+use Rattle.queue.specs.Stands.{bank_count, IsBankOf, with_row, closed_in, StandsFor as CandidatesStandFor}
 use Rattle.queue.proofs.Stood.{same_rows, bank_named}
 use Rattle.queue.proofs.Waits.{request_at as placed_at}
 use Rattle.request_table.specs.declared.served_requests.ServedRequest.{ServedRequest}
 use Rattle.statistics.specs.Channels.{issues_hit}
 use Rattle.channel_step.specs.FrFcfs.Requests.{IsInBanks, KnowsRows}
 use Rattle.channel_step.specs.Past.{is_named, Past, commands_after, choice_after}
-use Rattle.channel_step.specs.Stands.{marks_of}
+use Rattle.channel_step.specs.Stands.{activated_of}
 use Rattle.channel_step.specs.Queued.{request_at, served_now, kept_rows}
 use Rattle.channel_step.specs.Runs.{with_more}
 use Rattle.channel_step.specs.Channels.{CandidatesStand, IsInCycle}
-use Rattle.channel_step.specs.Readied.{IsChosen, IsDoing, row_of, IsReadied}
+use Rattle.channel_step.specs.Readied.{IsChosen, IsDoing, as_issued, IsReadied}
 use Rattle.channel_step.specs.declared.fr_fcfs.choice.Choice.TheVariants as chosen
 use Rattle.channel_step.specs.declared.channel.Channel.{Channel}
 use Rattle.channel_step.proofs.Cycle.{joined-differ}
@@ -40,16 +39,16 @@ use Rattle.channel_step.proofs.Foreseen.{request-needs}
 use Rattle.channel_step.proofs.Issuing.{readied, late-none}
 use Rattle.channel_step.proofs.Leaving.{at-waiting, served-waits, served-marks, mark-at, activated-marks}
 use Rattle.channel_step.proofs.Marks.{column_either, opens_none, marks-act, marks-no_act, served-none, hit-mark, column-opens_none}
-use Rattle.channel_step.proofs.Serving.{kept-quiet, kept-served}
+use Rattle.channel_step.proofs.Serving.{kept-none_issued, kept-served}
 
 -- the bank that the request at a place asks for is one that has candidates
 pub placed-among : (c : Channel) (past : Past) (place : ℕ) → IsInCycle c past → place < length c.queue.log
-    → IsAmong c.bank_candidates (bank_in (request_at c.queue.log place).place)
+    → IsBankOf c.bank_candidates (bank_in (request_at c.queue.log place).place)
 placed-among c past place h l =
     let placed = placed_at (IsInBanks past.config.ranks) c.queue.log place h.made_for.in_banks l in
     record { number = omega (arith, placed.rank, placed.group, placed.bank, h.made_for.banks_are); group = placed.group; bank = placed.bank }
 
--- its candidates know which rows are open
+-- the candidates of a channel know which rows are open
 pub knows-rows : (c : Channel) (past : Past) → IsInCycle c past → KnowsRows c.bank_candidates (commands_after past)
 knows-rows c past h = record { log = c.queue.log; stands = h.candidates_stand }
 
@@ -57,32 +56,32 @@ pub groups-are : (c : Channel) (past : Past) → IsInCycle c past → past.confi
 groups-are c past h = ap (λ (x : Config). x.groups) (sym h.made_for.config_is)
 
 -- a command that serves none and opens no row leaves the log
-quiet-readied : (c : Channel) (past : Past) (command : Command) (bank_candidates : BankCandidates) → IsInCycle c past
+none_issued-readied : (c : Channel) (past : Past) (command : Command) (bank_candidates : BankCandidates) → IsInCycle c past
     → Some command ≡ choice_after past → opens_none command ≡ true → is_column_command command ≡ false → is_hit (commands_after past) command ≡ false
     → bank_count bank_candidates ≡ bank_count c.bank_candidates
     → CandidatesStandFor bank_candidates c.queue.log (λ bank. row_after (bank_at bank) (open_row (bank_at bank) (commands_after past)) command)
     → IsReadied (record c { bank_candidates = bank_candidates }) past command false
-quiet-readied c past command bank_candidates h chosen opens quiet no_hit count stands =
+none_issued-readied c past command bank_candidates h chosen opens none_issued no_hit count stands =
     let history = commands_after past in
-    let row = row_of past.channel (length past.steps) command in
-    readied c past command false c.queue.log bank_candidates c.served h chosen no_hit refl (sym (served-none (waiting_requests c.queue.log) command quiet))
+    let row = as_issued past.channel (length past.steps) command in
+    readied c past command false c.queue.log bank_candidates c.served h chosen no_hit refl (sym (served-none (waiting_requests c.queue.log) command none_issued))
     (h.joined.marks_are ∙ sym (marks-no_act history row (waiting_requests c.queue.log) opens)) count stands
-    (kept-quiet c.served history row past.mail (late-none past.config past.channel past.steps past.mail command chosen) quiet h.keeps_served)
+    (kept-none_issued c.served history row past.mail (late-none past.config past.channel past.steps past.mail command chosen) none_issued h.keeps_served)
 
 -- a PRE closes the bank of a request
 pub closed-readied : (c : Channel) (past : Past) (place : ℕ) (bank_candidates : BankCandidates) → IsInCycle c past
     → place < length c.queue.log
     → let r = request_at c.queue.log place in
     Some (Pre (bank_in r.place) (source_of r)) ≡ choice_after past → bank_count bank_candidates ≡ bank_count c.bank_candidates
-    → CandidatesStandFor bank_candidates c.queue.log (with_row (number_of (bank_in r.place)) None (λ bank. open_row (bank_at bank) (commands_after past)))
+    → CandidatesStandFor bank_candidates c.queue.log (with_row (number_of_bank (bank_in r.place)) None (λ bank. open_row (bank_at bank) (commands_after past)))
     → IsReadied (record c { bank_candidates = bank_candidates }) past (Pre (bank_in r.place) (source_of r)) false
 closed-readied c past place bank_candidates h l chosen count stands =
     let r = request_at c.queue.log place in
     let bank = bank_in r.place in
     let rows : ℕ → Option ℕ = λ n. open_row (bank_at n) (commands_after past) in
     let among = placed-among c past place h l in
-    quiet-readied c past (Pre bank (source_of r)) bank_candidates h chosen refl refl refl count
-    (same_rows bank_candidates c.queue.log (with_row (number_of bank) None rows) (λ n. row_after (bank_at n) (rows n) (Pre bank (source_of r))) stands
+    none_issued-readied c past (Pre bank (source_of r)) bank_candidates h chosen refl refl refl count
+    (same_rows bank_candidates c.queue.log (with_row (number_of_bank bank) None rows) (λ n. row_after (bank_at n) (rows n) (Pre bank (source_of r))) stands
     (λ n there. ap (λ t. cond t None (rows n)) (bank_named n bank among.group among.bank)))
 
 -- an ACT opens a row in it, and marks the request
@@ -90,7 +89,7 @@ pub opened-readied : (c : Channel) (past : Past) (place : ℕ) (bank_candidates 
     → place < length c.queue.log → waits_at c.queue.log place ≡ true
     → let r = request_at c.queue.log place in
     Some (needed_at None r) ≡ choice_after past → bank_count bank_candidates ≡ bank_count c.bank_candidates
-    → CandidatesStandFor bank_candidates (activated_at c.queue.log place) (with_row (number_of (bank_in r.place)) (Some r.place.row) (λ bank. open_row (bank_at bank) (commands_after past)))
+    → CandidatesStandFor bank_candidates (activated_at c.queue.log place) (with_row (number_of_bank (bank_in r.place)) (Some r.place.row) (λ bank. open_row (bank_at bank) (commands_after past)))
     → IsReadied (record c { queue = record c.queue { log = activated_at c.queue.log place }; bank_candidates = bank_candidates }) past (needed_at None r) false
 opened-readied c past place bank_candidates h l w chosen count stands =
     let log = c.queue.log in
@@ -98,7 +97,7 @@ opened-readied c past place bank_candidates h l w chosen count stands =
     let bank = bank_in r.place in
     let act = needed_at None r in
     let history = commands_after past in
-    let row = row_of past.channel (length past.steps) act in
+    let row = as_issued past.channel (length past.steps) act in
     let rows : ℕ → Option ℕ = λ n. open_row (bank_at n) history in
     let among = placed-among c past place h l in
     let differ = joined-differ _ _ _ _ past h.joined in
@@ -106,11 +105,11 @@ opened-readied c past place bank_candidates h l w chosen count stands =
     (waiting_activated log place ∙ sym (served-none (waiting_requests log) act refl))
     (activated-marks (is_named history) log place l w differ h.joined.marks_are
     ∙ sym (marks-act history row (waiting_requests log) bank r.place.row (source_of r) refl)
-    ∙ ap (marks_of (history ++ row ∷ [])) (sym (waiting_activated log place)))
+    ∙ ap (activated_of (history ++ row ∷ [])) (sym (waiting_activated log place)))
     count
-    (same_rows bank_candidates (activated_at log place) (with_row (number_of bank) (Some r.place.row) rows) (λ n. row_after (bank_at n) (rows n) act) stands
+    (same_rows bank_candidates (activated_at log place) (with_row (number_of_bank bank) (Some r.place.row) rows) (λ n. row_after (bank_at n) (rows n) act) stands
     (λ n there. ap (λ t. cond t (Some r.place.row) (rows n)) (bank_named n bank among.group among.bank)))
-    (kept-quiet c.served history row past.mail (late-none past.config past.channel past.steps past.mail act chosen) refl h.keeps_served)
+    (kept-none_issued c.served history row past.mail (late-none past.config past.channel past.steps past.mail act chosen) refl h.keeps_served)
 
 column-rows : (bank : BankId) (row : Option ℕ) (r : Request) → row ≡ row_after bank row (column_command r)
 column-rows bank row r = column_either (λ command. row ≡ row_after bank row command) r refl refl
@@ -131,7 +130,7 @@ served-readied c past place bank_candidates served h l w chosen count stands mor
     let command = column_command r in
     let hit = not (get_or log place absent).activated in
     let history = commands_after past in
-    let row = row_of past.channel (length past.steps) command in
+    let row = as_issued past.channel (length past.steps) command in
     let rows : ℕ → Option ℕ = λ n. open_row (bank_at n) history in
     let differ = joined-differ _ _ _ _ past j in
     let no_act = column-opens_none r in
@@ -152,12 +151,12 @@ pub rank-readied : (c : Channel) (past : Past) (rank : ℕ) (bank_candidates : B
     → IsReadied (record c { bank_candidates = bank_candidates }) past (Prea rank) false
 rank-readied c past rank bank_candidates h chosen count stands =
     let rows : ℕ → Option ℕ = λ n. open_row (bank_at n) (commands_after past) in
-    quiet-readied c past (Prea rank) bank_candidates h chosen refl refl refl count
+    none_issued-readied c past (Prea rank) bank_candidates h chosen refl refl refl count
     (same_rows bank_candidates c.queue.log (closed_in rank rows) (λ n. row_after (bank_at n) (rows n) (Prea rank)) stands (λ n there. refl))
 
 pub refresh-readied : (c : Channel) (past : Past) (rank : ℕ) → IsInCycle c past
     → Some (Ref rank) ≡ choice_after past → IsReadied c past (Ref rank) false
-refresh-readied c past rank h chosen = quiet-readied c past (Ref rank) c.bank_candidates h chosen refl refl refl refl h.candidates_stand
+refresh-readied c past rank h chosen = none_issued-readied c past (Ref rank) c.bank_candidates h chosen refl refl refl refl h.candidates_stand
 
 -- what the request at a place needs, where this row of its bank is open, or none is
 pub needed-with : (history : List IssuedCommand) (r : Request) (o : Option ℕ) → o ≡ open_row (bank_in r.place) history → needed history r ≡ needed_at o r

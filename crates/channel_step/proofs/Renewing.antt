@@ -7,18 +7,18 @@ use Rattle.queue.specs.declared.bank_candidates.all_banks.BankCandidates.{BankCa
 use Rattle.queue.specs.Stands.{bank_count}
 use Rattle.channel_step.specs.FrFcfs.Requests.{IsInBanks}
 use Rattle.channel_step.specs.Past.{Past, commands_after}
-use Rattle.channel_step.specs.Stands.{marks_of}
+use Rattle.channel_step.specs.Stands.{activated_of}
 use Rattle.channel_step.specs.Channels.{CandidatesStand, HasPast}
 use Rattle.channel_step.specs.declared.next_command.NextCommand.TheVariants.{Unknown}
 use Rattle.channel_step.specs.declared.channel.Channel.{Channel}
 use Rattle.channel_step.proofs.Foreseen.{foreseen-unknown}
 use Rattle.channel_step.proofs.Leaving.{waits-all}
 
--- the same requests wait
+-- the same requests wait in a log that has been renumbered
 pub waiting-same : (log : List Arrived) → waiting_requests (waiting log) ≡ waiting_requests log
 waiting-same log = ap (map (λ (a : Arrived). a.request)) (waiting_twice log)
 
--- so it stands for the same past
+-- a channel whose log has been renumbered stands for the same past
 pub renewed-stands : (c : Channel) (past : Past) (bank_candidates : BankCandidates) → HasPast c past
     → bank_count bank_candidates ≡ bank_count c.bank_candidates → CandidatesStand bank_candidates (waiting c.queue.log) (commands_after past)
     → HasPast (record c { queue = record c.queue { log = waiting c.queue.log }; bank_candidates = bank_candidates; next_command = Unknown }) past
@@ -44,7 +44,7 @@ renewed-stands c past bank_candidates h count stands =
         past = h.recalls.past;
         queue_is = same ∙ h.recalls.queue_is;
         drained_is = h.recalls.drained_is;
-        marks_are = ap (map (λ (a : Arrived). a.activated)) (waiting_twice c.queue.log) ∙ h.recalls.marks_are ∙ ap (marks_of history) (sym same);
+        marks_are = ap (map (λ (a : Arrived). a.activated)) (waiting_twice c.queue.log) ∙ h.recalls.marks_are ∙ ap (activated_of history) (sym same);
         stats_are = h.recalls.stats_are;
       };
       candidates_stand = stands;

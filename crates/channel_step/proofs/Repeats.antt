@@ -1,7 +1,9 @@
 -- A stretch of cycles in which a channel does the same, and which count alike, is a product.
 use Rattle.std.proofs.Common.{◌≡◌, ℕ, zero, suc, ◌+◌, ◌*◌, ◌<◌, Bool, true, false, cond, eqb, List, [], ◌∷◌, ◌++◌, Option, Some, None, refl, sym, ap, ap₂, ◌∙◌, append_assoc, arith}
 use Rattle.std.specs.Prelude.{max, replicate, option_map}
-use Rattle.std.proofs.lemmas.Bool.{eqb-true, ne_eqb}
+use Rattle.std.proofs.Math.Dec.{eqb-suc-zero}
+use Rattle.std.proofs.Math.Nat.{zero-mul}
+use Rattle.std.proofs.lemmas.Bool.{eqb-true}
 use Rattle.std.proofs.lemmas.List.{append-nil}
 use Rattle.sim_base.specs.declared.config.Config.{Config}
 use Rattle.sim_base.specs.declared.command.Command.{Command}
@@ -18,12 +20,6 @@ channel_stretch s channel steps inbox (o ∷ more) =
 
 once_more : (n x : ℕ) → x + n * x ≡ suc n * x
 once_more n x = grind arith
-
-no_times : (x : ℕ) → 0 * x ≡ 0
-no_times x = grind arith
-
-not_none : (n : ℕ) → eqb (suc n) 0 ≡ false
-not_none n = ne_eqb (suc n) 0 (λ e. absurd (omega arith))
 
 append_replicate : {X : Type 0} (xs : List X) (x : X) (k : ℕ) → (xs ++ x ∷ []) ++ replicate k x ≡ xs ++ replicate (suc k) x
 append_replicate xs x k = append_assoc xs (x ∷ []) (replicate k x)
@@ -44,10 +40,10 @@ draining_once_more n false (Some x) h = ap Some (once_more n x)
 channel_times-suc : (n : ℕ) (a : ChannelStats) → channel_joined a (channel_times n a) ≡ channel_times (suc n) a
 channel_times-suc n a =
     let d = draining_once_more n (eqb n 0) a.draining (λ e. eqb-true n 0 e) in
-    simp (once_more, greater_once_more, not_none, d)
+    simp (once_more, greater_once_more, eqb-suc-zero, d)
 
 channel_times-zero : (a : ChannelStats) → channel_times 0 a ≡ channel_none
-channel_times-zero a = simp no_times
+channel_times-zero a = simp zero-mul
 
 pub channel_stretch-replicate : (s : Config) (channel : ℕ) (inbox : List Message) (o : Option Command) (a : ChannelStats) (n : ℕ) (steps : List (Option Command))
     → ((k : ℕ) → k < n → channel_cycle s channel (steps ++ replicate k o) inbox o ≡ a)

@@ -137,7 +137,7 @@ turned-none c past inbox from until commands messages h f =
       messages_are = sym (append-nil messages);
     }
 
--- one step of the loop more
+-- a run with one step of the loop more
 pub turned-more : (c d : Channel) (past : Past) (inbox : List Message) (from now until arrived n last : ℕ)
     (commands more_commands most_commands : Option (List IssuedCommand)) (messages more_messages most_messages : List Message) → length past.steps ≡ from → from ≤ now → now ≤ last
     → HasAdvanced c past inbox from now until arrived commands more_commands messages more_messages

@@ -35,7 +35,7 @@ served-before arrivals history i [] h = refl
 served-before arrivals history i (j ∷ some) h =
     ap₂ (λ hit rest. cons_option (served_by arrivals hit j.channel j.cycle j.command) rest) (is_hit-push history i j.command h.0) (served-before arrivals history i some h.1)
 
--- one command more, which is no ACT for an entry that was served
+-- the requests that were served, with one command more, which is no ACT for an entry that was served
 served_requests-push : (arrivals : Source → ℕ) (history : List IssuedCommand) (i : IssuedCommand) → is_late_act history (Some i.command) ≡ false
     → served_requests arrivals (history ++ i ∷ []) ≡ served_requests arrivals history ++ cons_option (served_in arrivals history i) []
 unfolding served_requests
@@ -44,7 +44,7 @@ served_requests-push arrivals history i h =
     ∙ ap₂ (λ rows hit. rows ++ cons_option (served_by arrivals hit i.channel i.cycle i.command) [])
     (served-before arrivals history i history (not_late history i.command h)) (is_hit-push history i i.command (opens_for-itself i.command))
 
--- it is told when a request came
+-- a function tells when a request arrived
 abbrev TellsOf : (Source → ℕ) → Request → Type 0
 TellsOf arrivals r = r.arrival ≡ arrivals (source_of r)
 
@@ -96,13 +96,13 @@ kept-more (Some was) (Some rows) history i new mail e more h = λ arrivals each.
     same ∙ ap (λ x. x ++ new) (h arrivals each) ∙ sym (more arrivals each)
 
 -- a command that is no column command adds none
-pub kept-quiet : (kept : Option (Vec ServedRequest Global)) (history : List IssuedCommand) (i : IssuedCommand) (mail : List Message) → is_late_act history (Some i.command) ≡ false
+pub kept-none_issued : (kept : Option (Vec ServedRequest Global)) (history : List IssuedCommand) (i : IssuedCommand) (mail : List Message) → is_late_act history (Some i.command) ≡ false
     → is_column_command i.command ≡ false → KeepsServed kept history mail → KeepsServed kept (history ++ i ∷ []) mail
-kept-quiet None history i mail late quiet h = tt
-kept-quiet (Some rows) history i mail late quiet h = λ arrivals each.
+kept-none_issued None history i mail late none_issued h = tt
+kept-none_issued (Some rows) history i mail late none_issued h = λ arrivals each.
     h arrivals each
     ∙ sym (served_requests-push arrivals history i late
-    ∙ ap (λ o. served_requests arrivals history ++ cons_option o []) (served-none arrivals (is_hit history i.command) i.channel i.cycle i.command quiet)
+    ∙ ap (λ o. served_requests arrivals history ++ cons_option o []) (served-none arrivals (is_hit history i.command) i.channel i.cycle i.command none_issued)
     ∙ append-nil (served_requests arrivals history))
 
 -- the column command of a request that waits adds that

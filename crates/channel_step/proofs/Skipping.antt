@@ -8,7 +8,7 @@ use Rattle.sim_base.proofs.Ordered.{Each-weaker}
 use Rattle.sim_base.specs.declared.config.Config.{Config}
 use Rattle.sim_base.specs.Counts.{queued_max}
 use Rattle.sim_base.specs.History.{issued_commands}
-use Rattle.sim_base.specs.Scheduling.{queued_requests, drains_before, drains, lowest_due}
+use Rattle.sim_base.specs.Scheduling.{queued_requests, drains_before, drains, lowest_due, queue_room}
 use Rattle.sim_base.specs.declared.command.Command.{Command}
 use Rattle.sim_base.specs.declared.message.Message.{Message}
 use Rattle.statistics.specs.Channels.{channel_stats, channel_cycle, channel_cycle_with, channel_joined, channel_times, ChannelFits}
@@ -19,9 +19,8 @@ use Rattle.bank_ready.specs.Stands.{StandsFor as BanksStandFor}
 use Rattle.bank_ready.specs.Refreshes.{RefreshCounts, lowest_owed, StandsFor as RefreshesStandFor}
 use Rattle.bank_ready.proofs.Due.{lowest_due_from_owed}
 use Rattle.channel_step.specs.Past.{requests_of, past_of, Past, commands_after}
-use Rattle.channel_step.specs.Stands.{marks_of}
+use Rattle.channel_step.specs.Stands.{activated_of}
 use Rattle.channel_step.specs.Counted.{cycle_with_hit}
-use Rattle.channel_step.specs.Fit.{queue_room}
 use Rattle.channel_step.specs.Queued.{drain_decided}
 use Rattle.queue.specs.Log.{waiting_requests}
 use Rattle.channel_step.specs.Channels.{CandidatesStand, IsForeseen, KeepsServed, StandsFor, IsInCycle, skipped, HasPast, idle_after}
@@ -178,7 +177,7 @@ skipped-in_cycle c past n due until h before alike e =
             j.queue_is
             ∙ sym (idle-queued_requests past.channel past.steps past.mail before n (length more + 1) (omega arith));
         drained_is = j.drained_is ∙ sym (idle-drains past.config past.channel past.steps past.mail before n);
-        marks_are = j.marks_are ∙ ap (λ x. marks_of x (waiting_requests c.queue.log)) (sym history);
+        marks_are = j.marks_are ∙ ap (λ x. activated_of x (waiting_requests c.queue.log)) (sym history);
         stats_are = skipped-stats c past n due h before alike;
       };
       candidates_stand = subst (CandidatesStand c.bank_candidates c.queue.log) (sym history) h.candidates_stand;
@@ -342,7 +341,7 @@ skips-not_due c past until due h l =
     let is = h.in_cycle.cycle_is in
     subst (λ n. IsInCycle (skipped_to c due) (past_of past.config past.channel (past.steps ++ replicate n None) past.mail)) (let e : due - c.cycle ≡ until - length past.steps = omega arith in e) (skips-second c past until due h)
 
--- and where one is due in each
+-- the channel after the cycles that it passes over, where a refresh is due in each of them
 skips-alike_due : (c : Channel) (past : Past) (until due : ℕ) → Skips c past until due → due ≤ c.cycle
     → IsDueThroughout past.config past.channel past.steps (until - c.cycle) (is_some (lowest_owed c.refresh c.cycle))
 skips-alike_due c past until due h l =
@@ -367,7 +366,7 @@ skips-due_fits c past until due h l =
     let from_now = h.from_now in
     skip-fits c past until h.in_cycle (there-before c past h.in_cycle) (skips-alike_due c past until due h l) (omega arith) h.early
 
--- and where there are none
+-- the channel after the cycles that it passes over, where there are none
 pub waited-none : (c : Channel) (past : Past) (until : ℕ) → c.cycle ≡ until → IsInCycle c past
     → IsInCycle c (idle_after past (length past.steps) until)
 waited-none c past until at h =

@@ -6,7 +6,7 @@ use Rattle.std.proofs.lemmas.List.{append_assoc}
 use Rattle.sim_base.proofs.Same.{AgreeUpTo, sooner, choice-same}
 use Rattle.sim_base.specs.declared.config.Config.{Config}
 use Rattle.sim_base.specs.Access.{is_access}
-use Rattle.sim_base.specs.History.{issued_commands}
+use Rattle.sim_base.specs.History.{issued_commands, issued_now}
 use Rattle.sim_base.specs.Machine.{channel_run}
 use Rattle.sim_base.specs.Scheduling.{queued_requests, queue_in, writes_in, drains_with, drains_before, drains, candidates, lowest_due, choice_between, choice}
 use Rattle.sim_base.specs.declared.command.Command.{Command}
@@ -15,7 +15,7 @@ use Rattle.sim_base.specs.declared.message.Access.TheVariants as access
 use Rattle.sim_base.specs.declared.message.Message.{Message}
 use Rattle.sim_base.specs.declared.message.Request.{Request}
 use Rattle.sim_base.proofs.Added.{length-push_suc}
-use Rattle.statistics.proofs.ChannelCounts.{issued_now, issued_commands-push, drains_before-push}
+use Rattle.statistics.proofs.ChannelCounts.{issued_commands-push, drains_before-push}
 
 -- the queue of the next cycle
 pub queue-next : (channel : ℕ) (steps : List (Option Command)) (mail : List Message)
@@ -69,7 +69,7 @@ channel_run-more s channel steps mail m (suc n) =
     ap (channel_run s channel steps mail) (add-suc m n)
     ∙ ap (λ before. before ++ choice s channel before mail ∷ []) (channel_run-more s channel steps mail m n)
 
--- one cycle more
+-- the run of a channel over one cycle more
 pub channel_run-one : (s : Config) (channel : ℕ) (steps : List (Option Command)) (mail : List Message) (n : ℕ)
     → channel_run s channel steps mail (n + 1)
     ≡ channel_run s channel steps mail n ++ choice s channel (channel_run s channel steps mail n) mail ∷ []

@@ -6,13 +6,12 @@ use Rattle.std.specs.List.{All, AllByRecursion as Each}
 use Rattle.sim_base.proofs.Ordered.{Each-weaker}
 use Rattle.sim_base.specs.declared.config.Config.{Config}
 use Rattle.sim_base.specs.History.{issued_commands}
-use Rattle.sim_base.specs.Scheduling.{queued_requests, drains_with, drains_before, drains, candidates, choice_between, choice, lowest_due}
+use Rattle.sim_base.specs.Scheduling.{queued_requests, drains_with, drains_before, drains, candidates, choice_between, choice, lowest_due, queue_room}
 use Rattle.bank_ready.specs.Stands.{rank_count, StandsFor as BanksStandFor}
 use Rattle.bank_ready.specs.Refreshes.{StandsFor as RefreshesStandFor}
 use Rattle.statistics.specs.declared.channels.ChannelStats.{ChannelStats}
-use Rattle.channel_step.specs.Fit.{queue_room}
 use Rattle.channel_step.specs.Latencies.{answer_latencies}
-use Rattle.channel_step.specs.Queued.{marks_in}
+use Rattle.channel_step.specs.Queued.{activated_in}
 use Rattle.statistics.specs.Channels.{channel_none, draining_of}
 use Rattle.statistics.proofs.ChannelCounts.{channel_stats-none}
 use Rattle.sim_base.specs.Rules.{open_row}
@@ -38,7 +37,7 @@ use Rattle.channel_step.proofs.Foreseen.{foreseen-unknown}
 use Rattle.channel_step.proofs.Serving.{kept-none}
 use Rattle.request_table.specs.declared.served_requests.ServedRequest.{ServedRequest}
 
--- there is no past yet
+-- what a channel keeps of its past before its first cycle
 pub recalls-none : (s : Config) (channel : ℕ) → Recalls [] false [] (record channel_none { draining = draining_of s 0 }) (past_of s channel [] [])
 unfolding queued_requests issued_commands drains_before
 recalls-none s channel = record {
@@ -110,7 +109,7 @@ pub start-stands : (c : Channel) (s : Config) (number : ℕ) → c.config ≡ s 
     → CandidatesStandFor c.bank_candidates [] (λ bank. None) → c.next_command ≡ Unknown → c.served ≡ None → StandsFor c s number [] []
 unfolding issued_commands open_row waiting
 start-stands c s number config is latencies cycle queue_is banks refresh stats count bank_candidates next_command served =
-    let R : QueueView → ChannelStats → Type 0 = λ q t. Recalls (waiting_requests q.log) q.drain_decided (marks_in q.log) t (past_of s number [] []) in
+    let R : QueueView → ChannelStats → Type 0 = λ q t. Recalls (waiting_requests q.log) q.drain_decided (activated_in q.log) t (past_of s number [] []) in
     let empty : QueueView = record { room = queue_room s; places = places_for (queue_room s); high = s.write_high; low = s.write_low; log = []; drain_decided = false } in
     let base : R empty (record channel_none { draining = draining_of s 0 }) = recalls-none s number in
     let none : length (waiting_requests c.queue.log) ≡ 0 = ap (λ (q : QueueView). length (waiting_requests q.log)) queue_is in

@@ -12,7 +12,7 @@ use Rattle.sim_base.specs.declared.config.Config.{Config}
 use Rattle.sim_base.specs.Access.{is_access}
 use Rattle.sim_base.specs.Counts.{queue_length}
 use Rattle.sim_base.specs.Machine.{channel_run}
-use Rattle.sim_base.specs.Scheduling.{request_in, drains_with}
+use Rattle.sim_base.specs.Scheduling.{request_in, drains_with, queue_room}
 use Rattle.sim_base.specs.declared.command.IssuedCommand.{IssuedCommand}
 use Rattle.sim_base.specs.declared.message.Access.TheVariants as access
 use Rattle.sim_base.specs.declared.message.Message.{Message}
@@ -25,9 +25,9 @@ use Rattle.queue.specs.View.{QueueView, drains_by}
 use Rattle.queue.specs.declared.bank_candidates.all_banks.BankCandidates.{BankCandidates}
 use Rattle.queue.specs.Stands.{bank_count}
 use Rattle.channel_step.specs.Past.{requests_of, IsRequestIn, CarriesRequest, Past, commands_after, with_mail}
-use Rattle.channel_step.specs.Fit.{queue_room, IsFitAfter}
-use Rattle.channel_step.specs.Stands.{marks_of}
-use Rattle.channel_step.specs.Queued.{marks_in, with_arrivals}
+use Rattle.channel_step.specs.Fit.{IsFitAfter}
+use Rattle.channel_step.specs.Stands.{activated_of}
+use Rattle.channel_step.specs.Queued.{activated_in, with_arrivals}
 use Rattle.channel_step.specs.Channels.{CandidatesStand, IsNextCommand, NextCommandIsFor, IsInCycle, HasPast}
 use Rattle.channel_step.specs.declared.next_command.NextCommand.{NextCommand}
 use Rattle.channel_step.specs.declared.next_command.NextCommand.TheVariants.{Unknown, Known}
@@ -136,7 +136,7 @@ arrived-stands c past inbox now until q bank_candidates next_command h at l f e 
         differ = j.differ;
         queue_is = wait ∙ j.queue_is;
         drained_is = drains ∙ j.drained_is;
-        marks_are = ap (λ (x : QueueView). marks_in x.log) e ∙ marks-with c.queue.log requests ∙ j.marks_are ∙ ap (marks_of history) (sym wait);
+        marks_are = ap (λ (x : QueueView). activated_in x.log) e ∙ marks-with c.queue.log requests ∙ j.marks_are ∙ ap (activated_of history) (sym wait);
         stats_are = j.stats_are;
       };
       candidates_stand = candidates_stand;
@@ -146,7 +146,7 @@ arrived-stands c past inbox now until q bank_candidates next_command h at l f e 
       keeps_served = kept-later c.served history past.mail new h.keeps_served;
     }
 
--- there is room for them
+-- there is room in the queue for the requests that arrive in a cycle
 pub admit-room : (c : Channel) (past : Past) (inbox : List Message) (now until n : ℕ) → HasPast c past → length past.steps ≡ now → now < until
     → IsFitAfter past inbox now until → n ≡ due_count inbox now → length (waiting_requests c.queue.log) + n ≤ c.queue.room
 admit-room c past inbox now until n h at l f e =

@@ -39,7 +39,7 @@ idle-issued channel steps (suc n) =
     ∙ append-nil _
     ∙ idle-issued channel steps n
 
--- and send nothing
+-- idle cycles send nothing
 pub idle-messages : (s : Config) (channel : ℕ) (steps : List (Option Command)) (n : ℕ) → channel_messages s channel (steps ++ replicate n None) ≡ channel_messages s channel steps
 idle-messages s channel steps zero = ap (channel_messages s channel) (append-nil steps)
 idle-messages s channel steps (suc n) =

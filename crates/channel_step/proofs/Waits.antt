@@ -19,7 +19,7 @@ joined-twice q xs ys =
 pub joined_none : (q : QueueView) → q ≡ joined_with q []
 joined_none q = ap (λ log. record q { log = log }) (sym (append-nil q.log))
 
--- one message more
+-- the requests that have joined, with one message more
 pub joined_more : (q v : QueueView) (ms : List Message) (i : ℕ) (d : Message) → i < length ms → v ≡ joined_with q (requests_of (take i ms))
     → joined_with v (requests_of (get_or ms i d ∷ [])) ≡ joined_with q (requests_of (take (i + 1) ms))
 joined_more q v ms i d l e =
@@ -35,7 +35,7 @@ requests-few (m ∷ ms) = by (request_in m.payload) (requests-few ms)
     by None h = omega arith
     by (Some r) h = omega arith
 
--- there is room for it
+-- there is room in the queue for one message more
 pub joined_room : (q v : QueueView) (ms : List Message) (i : ℕ) → v ≡ joined_with q (requests_of (take i ms)) → i < length ms → length (waiting_requests q.log) + length ms ≤ q.room
     → length (waiting_requests v.log) < v.room
 joined_room q v ms i e l k =
@@ -46,7 +46,7 @@ joined_room q v ms i e l k =
     let c : length (take i ms) ≤ i = omega (arith, length-take i ms) in
     omega (arith, requests-few (take i ms))
 
--- and a place
+-- there is a place in the log for one message more
 pub joined_places : (q v : QueueView) (ms : List Message) (i : ℕ) → v ≡ joined_with q (requests_of (take i ms)) → i < length ms → length q.log + length ms ≤ q.places
     → length v.log < v.places
 joined_places q v ms i e l k =

@@ -1,37 +1,38 @@
 -- What a `Channel` stands for.
---     CandidatesStand bank_candidates log history      bank_candidates are those of the requests of a log, after these commands
+--     CandidatesStand bank_candidates log history      the candidates are those of a log, after these commands
 --     IsMadeFor c s channel      the channel with a number, of a machine with a configuration
---     AreServed rows history mail      these are the requests that these commands served, of those that came with these messages
---     KeepsServed kept history mail      the same of the requests that are kept, if they are
---     StandsFor c s channel steps mail      all that it keeps is what these steps, and the messages that arrived in them, make of it
---     HasPast c p      the same, of a past
---     ForPasts c fact      a fact of each past that it may have
+--     AreServed rows history mail      these are the requests that these commands served, given their arrivals
+--     KeepsServed kept history mail      the requests that are kept, if they are, are those that these commands served
+--     StandsFor c s channel steps mail      all that a channel keeps is what these steps and messages make of it
+--     HasPast c p      a channel stands for a past
+--     ForPasts c fact      a fact of each past that a channel may have
 --     StandForTheSame old new      a channel has each past that it had
 --     PartsStand c s history      the parts of a channel stand for a configuration and its commands so far
---     HasMore c s history earlier older      the requests from a place on have joined the queue of a channel since
+--     HasMore c s history earlier older      the requests from place `older` on have joined the queue of a channel
 --     idle_after p from cycle      a past, and cycles in which nothing is issued and nothing arrives
 --     issues_in p from cycle      whether a channel issues a command in a cycle, if nothing arrives
---     IsQuiet s history queue from end      nothing is issued before a cycle
---     IsNextCommand s history queue from next_command, IsForeseen s history queue from next_command      what is known of the next command from a cycle on is so
---     Foresees c s history      the same of what a channel knows
+--     NoneIsIssued s history queue from end      nothing is issued before a cycle
+--     IsNextCommand s history queue from next_command      what is known of the next command is right
+--     IsForeseen s history queue from next_command      the same, as two facts
+--     Foresees c s history      what a channel knows of its next command is right
 --     IsFound c s history now next      the next command from a cycle on, if there is one
 --     HasRank c rank, HasBank c bank      a channel of a machine with this rank, or with this bank
---     IsInCycle c p      it has a past in the next cycle, when what arrives in it has joined the queue
---     ForCycles c fact      a fact of each past after which it may be in the next cycle
---     StaysInCycle old new      it is in each cycle that it was in
+--     IsInCycle c p      a channel has a past in the next cycle, when what arrives in it has joined the queue
+--     ForCycles c fact      a fact of each past after which a channel may be in the next cycle
+--     StaysInCycle old new      a channel is in each cycle that it was in
 --     IsNextBefore p log end next      the next command before a cycle, and when it is issued, if there is one
 --     CountsDrains c      cycles of draining are counted where the channel ever drains
 --     seen_with c refreshing, seen_of c now      what is seen of a channel in a cycle
---     counted c seen command hit      its statistics after a command
---     after_cycle c seen command hit      what it is once that is counted
+--     counted c seen command hit      the statistics of a channel after a command
+--     after_cycle c seen command hit      a channel once its cycle with a command is counted
 --     idle_cycle c now      the statistics of a cycle in which a channel issues nothing
---     skipped c until      its statistics after such cycles
+--     skipped c until      the statistics of a channel after cycles in which it issues nothing
 use Rattle.std.specs.Prelude.{◌≡◌, ℕ, ◌+◌, ◌-◌, ◌*◌, ◌<◌, ◌≤◌, Bool, false, List, take, length, is_some, nat_lt, Option, Some, None, IfSome, All, Vec}
 use Rattle.std.specs.List.{AllByRecursion as Each}
 use Rattle.std.specs.declared.alloc.Global.{Global}
 use Rattle.sim_base.specs.declared.config.Config.{Config}
 use Rattle.sim_base.specs.History.{issued_commands}
-use Rattle.sim_base.specs.Scheduling.{source_of}
+use Rattle.sim_base.specs.Scheduling.{source_of, queue_room}
 use Rattle.sim_base.specs.declared.command.Command.{Command}
 use Rattle.sim_base.specs.declared.command.IssuedCommand.{IssuedCommand}
 use Rattle.sim_base.specs.declared.command.Source.{Source}
@@ -55,16 +56,16 @@ use Rattle.channel_step.specs.declared.fr_fcfs.choice.Choice.{Choice}
 use Rattle.request_table.specs.Served.{served_requests}
 use Rattle.request_table.specs.declared.served_requests.ServedRequest.{ServedRequest}
 use Rattle.channel_step.specs.Past.{Steps, Past, past_of, commands_after, choice_after, requests_of}
-use Rattle.channel_step.specs.Fit.{queue_room, idle_until, IsIdle}
+use Rattle.channel_step.specs.Fit.{idle_until, IsIdle}
 use Rattle.channel_step.specs.Latencies.{answer_latencies}
-use Rattle.channel_step.specs.Queued.{marks_in}
-use Rattle.channel_step.specs.Stands.{Recalls, HasJoined}
+use Rattle.channel_step.specs.Queued.{activated_in}
+use Rattle.channel_step.specs.Stands.{Recalls, HasArrivals}
 use Rattle.channel_step.specs.declared.next_command.NextCommand.{NextCommand}
 use Rattle.channel_step.specs.declared.next_command.NextCommand.TheVariants.{Unknown, Known}
 use Rattle.channel_step.specs.declared.channel.Channel.{Channel}
 use Rattle.channel_step.specs.declared.counting.Seen.{Seen}
 
--- candidates are those of the requests of a log, where the open rows are those that these commands left open
+-- the candidates are those of the requests of a log, where the open rows are those that these commands left open
 abbrev pub CandidatesStand : BankCandidates → List Arrived → List IssuedCommand → Type 0
 CandidatesStand bank_candidates log history = CandidatesStandFor bank_candidates log (rows_after history)
 
@@ -83,25 +84,24 @@ pub record IsMadeFor (c : Channel) (s : Config) (channel : ℕ) : Type 0 where
   pub within : length (waiting_requests c.queue.log) ≤ queue_room s
   pub longest : c.stats.queued_max ≤ queue_room s
 
--- nothing is issued in the cycles from one on and before another, with this queue
-abbrev pub IsQuiet : Config → List IssuedCommand → QueueView → ℕ → ℕ → Type 0
-IsQuiet s history queue from end = (t : ℕ) → from ≤ t → t < end → choice_in s history queue t ≡ None
+-- with this queue nothing is issued in the cycles from `from` up to `end`
+abbrev pub NoneIsIssued : Config → List IssuedCommand → QueueView → ℕ → ℕ → Type 0
+NoneIsIssued s history queue from end = (t : ℕ) → from ≤ t → t < end → choice_in s history queue t ≡ None
 
--- what was chosen needs a command that is issued in a cycle, and none is in the cycles from a given one on and before
--- that
+-- what was chosen needs a command that is issued in `cycle`, and none is issued in the cycles from `from` up to that
 pub record IsNextCommandAt (s : Config) (history : List IssuedCommand) (queue : QueueView) (from cycle : ℕ) (choice : Choice) : Type 0 where
   pub then_is : choice_in s history queue cycle ≡ command_of s history queue.log choice
-  pub none_before : IsQuiet s history queue from cycle
+  pub none_before : NoneIsIssued s history queue from cycle
   pub place : IsFor s.ranks queue.log choice
 
--- what is known of the next command from a cycle on: nothing; or that none is ever issued; or its cycle, and what needs
+-- what is known of the next command from `from` on: nothing; or that none is ever issued; or its cycle, and what needs
 -- it
 abbrev pub IsNextCommand : Config → List IssuedCommand → QueueView → ℕ → NextCommand → Type 0
 IsNextCommand s history queue from Unknown = Unit {0}
 IsNextCommand s history queue from (Known None) = (t : ℕ) → from ≤ t → choice_in s history queue t ≡ None
 IsNextCommand s history queue from (Known (Some next)) = IsNextCommandAt s history queue from next.0 next.1
 
--- what is known of the next command, if it is, is for a request that waits or a rank that there is
+-- the next command, if it is known, is for a request that waits or for a rank that exists
 abbrev pub NextCommandIsFor : ℕ → List Arrived → NextCommand → Type 0
 NextCommandIsFor ranks log Unknown = Unit {0}
 NextCommandIsFor ranks log (Known next) = HasPlace ranks log next
@@ -111,36 +111,38 @@ NextCommandIsFor ranks log (Known next) = HasPlace ranks log next
 --     at      it is issued in its cycle, and none before that
 pub record IsForeseen (s : Config) (history : List IssuedCommand) (queue : QueueView) (from : ℕ) (next_command : NextCommand) : Type 0 where
   pub never : next_command ≡ Known None → (t : ℕ) → from ≤ t → choice_in s history queue t ≡ None
-  pub at : (cycle : ℕ) (choice : Choice) → next_command ≡ Known (Some (cycle, choice)) → IsNextCommandAt s history queue from cycle choice
+  pub at : (cycle : ℕ) (choice : Choice) → next_command ≡ Known (Some (cycle, choice))
+      → IsNextCommandAt s history queue from cycle choice
 
 -- what a channel knows of its next command is so after these commands, as long as nothing arrives
 abbrev pub Foresees : Channel → Config → List IssuedCommand → Type 0
 Foresees c s history = IsForeseen s history c.queue c.cycle c.next_command
 
--- the next command from a cycle on, and what needs it, if there is one
+-- the next command from `now` on, and what needs it, if there is one
 abbrev pub IsFound : Channel → Config → List IssuedCommand → ℕ → Option (ℕ × Choice) → Type 0
-IsFound c s history now next = IsNext (choice_in s history c.queue) (command_of s history c.queue.log) now next × HasPlace s.ranks c.queue.log next
+IsFound c s history now next =
+    IsNext (choice_in s history c.queue) (command_of s history c.queue.log) now next × HasPlace s.ranks c.queue.log next
 
 -- the parts of a channel stand for a configuration and its commands so far
 abbrev pub PartsStand : Channel → Config → List IssuedCommand → Type 0
 PartsStand c s history = StandFor c.bank_candidates c.banks c.refresh c.queue c.config.groups s history
 
--- Into the queue of a channel, which was `earlier`, the requests from place `older` on have come since. Its banks and
--- its candidates stand for its commands so far, and the candidates for the queue as it is now.
+-- The requests from place `older` on have come into the queue of a channel since the queue was `earlier`. The banks and
+-- the candidates stand for the commands so far, and the candidates for the queue as it is now.
 pub record HasMore (c : Channel) (s : Config) (history : List IssuedCommand) (earlier : QueueView) (older : ℕ) : Type 0 where
   pub banks_stand : BanksStandFor c.banks s history
   pub candidates_stand : CandidatesStand c.bank_candidates c.queue.log history
   pub high_is : s.write_high ≡ c.queue.high
   pub earlier_is : earlier.log ≡ take older c.queue.log
 
--- these are the requests that these commands served, wherever it is told when each request came that these messages
--- carry
+-- these are the requests that these commands served, given the arrival of each request that these messages carry
 abbrev pub AreServed : List ServedRequest → List IssuedCommand → List Message → Type 0
 AreServed rows history mail =
-    (arrivals : Source → ℕ) → Each (λ r. r.arrival ≡ arrivals (source_of r)) (requests_of mail) → rows ≡ served_requests arrivals history
+    (arrivals : Source → ℕ) → Each (λ r. r.arrival ≡ arrivals (source_of r)) (requests_of mail)
+    → rows ≡ served_requests arrivals history
 
--- the requests that are kept, if they are, are those that these commands served, wherever it is told when each request
--- came that these messages carry
+-- the requests that are kept, if they are, are those that these commands served, given the arrival of each request that
+-- these messages carry
 abbrev pub KeepsServed : Option (Vec ServedRequest Global) → List IssuedCommand → List Message → Type 0
 KeepsServed kept history mail = IfSome kept (λ rows. AreServed rows.items history mail)
 
@@ -149,31 +151,34 @@ KeepsServed kept history mail = IfSome kept (λ rows. AreServed rows.items histo
 pub record StandsFor (c : Channel) (s : Config) (channel : ℕ) (steps : Steps) (mail : List Message) : Type 0 where
   pub made_for : IsMadeFor c s channel
   pub cycle_is : c.cycle ≡ length steps
-  pub recalls : Recalls (waiting_requests c.queue.log) c.queue.drain_decided (marks_in c.queue.log) c.stats (past_of s channel steps mail)
+  pub recalls : Recalls (waiting_requests c.queue.log) c.queue.drain_decided (activated_in c.queue.log) c.stats
+      (past_of s channel steps mail)
   pub candidates_stand : CandidatesStand c.bank_candidates c.queue.log (issued_commands channel steps)
   pub banks_stand : BanksStandFor c.banks s (issued_commands channel steps)
   pub refreshes_stand : RefreshesStandFor c.refresh s (issued_commands channel steps)
   pub foresees : Foresees c s (issued_commands channel steps)
   pub keeps_served : KeepsServed c.served (issued_commands channel steps) mail
 
--- a channel has a past: it stands for it
+-- a channel stands for a past: its configuration, its number, its steps and its messages
 abbrev pub HasPast : Channel → Past → Type 0
 HasPast c p = StandsFor c p.config p.channel p.steps p.mail
 
--- this is so of each past that a channel may have; it is given by its parts, which the laws of runs name one by one
+-- a fact holds of each past that a channel may have; the past is given by its parts, which the laws of runs name one by
+-- one
 abbrev pub ForPasts : Channel → (Past → Type 0) → Type 0
 ForPasts c fact =
-    (s : Config) (channel : ℕ) (steps : Steps) (mail : List Message) → StandsFor c s channel steps mail → fact (past_of s channel steps mail)
+    (s : Config) (channel : ℕ) (steps : Steps) (mail : List Message) → StandsFor c s channel steps mail
+    → fact (past_of s channel steps mail)
 
 -- a channel still has each past that it had
 abbrev pub StandForTheSame : Channel → Channel → Type 0
 StandForTheSame old new = ForPasts old (HasPast new)
 
--- a past, and cycles from one on and before another in which nothing is issued and nothing arrives
+-- a past, and after it the cycles from `from` up to `cycle`, in which nothing is issued and nothing arrives
 abbrev pub idle_after : Past → ℕ → ℕ → Past
 idle_after p from cycle = record p { steps = idle_until p.steps from cycle }
 
--- whether a channel issues a command in a cycle, from one on, if it issues none and nothing arrives before that
+-- whether a channel issues a command in a cycle, if from `from` up to that cycle it issues none and nothing arrives
 abbrev pub issues_in : Past → ℕ → ℕ → Bool
 issues_in p from = λ cycle. is_some (choice_after (idle_after p from cycle))
 
@@ -201,14 +206,14 @@ pub record HasBank (c : Channel) (bank : BankId) : Type 0 where
 pub record IsInCycle (c : Channel) (p : Past) : Type 0 where
   pub made_for : IsMadeFor c p.config p.channel
   pub cycle_is : c.cycle ≡ length p.steps
-  pub joined : HasJoined (waiting_requests c.queue.log) c.queue.drain_decided (marks_in c.queue.log) c.stats p
+  pub joined : HasArrivals (waiting_requests c.queue.log) c.queue.drain_decided (activated_in c.queue.log) c.stats p
   pub candidates_stand : CandidatesStand c.bank_candidates c.queue.log (commands_after p)
   pub banks_stand : BanksStandFor c.banks p.config (commands_after p)
   pub refreshes_stand : RefreshesStandFor c.refresh p.config (commands_after p)
   pub foresees : Foresees c p.config (commands_after p)
   pub keeps_served : KeepsServed c.served (commands_after p) p.mail
 
--- this is so of each past after which a channel may be in the next cycle
+-- a fact holds of each past after which a channel may be in the next cycle
 abbrev pub ForCycles : Channel → (Past → Type 0) → Type 0
 ForCycles c fact = (past : Past) → IsInCycle c past → fact past
 
@@ -222,8 +227,8 @@ pub record IsInSomeCycle (c : Channel) (now : ℕ) : Type 0 where
   pub is_in : IsInCycle c past
   pub at : length past.steps ≡ now
 
--- The next command that is issued after a past, if nothing arrives any more: it is what the channel does in this cycle,
--- which is before another one, and none is issued in the cycles before it.
+-- The next command that is issued after a past, if nothing arrives any more: it is what the channel does in `cycle`,
+-- which is before `end`, and none is issued in the cycles before it.
 pub record IsNextIn (p : Past) (end cycle : ℕ) (command : Command) : Type 0 where
   pub from_now : length p.steps ≤ cycle
   pub before_end : cycle < end
@@ -238,8 +243,8 @@ pub record IsNeededIn (p : Past) (log : List Arrived) (end cycle : ℕ) (chosen 
   pub needed : command_of p.config (commands_after p) log chosen ≡ Some command
   pub is_next : IsNextIn p end cycle command
 
--- what needs the next command that is issued after a past and before a cycle, if nothing arrives any more, or none
--- where none is
+-- what needs the next command that is issued after a past and before `end`, if nothing arrives any more, or none where
+-- none is issued
 abbrev pub IsNextBefore : Past → List Arrived → ℕ → Option (ℕ × Choice) → Type 0
 IsNextBefore p log end (Some next) = IsNeededIn p log end next.0 next.1
 IsNextBefore p log end None = IsIdle p.config p.channel p.steps p.mail (end - length p.steps)
@@ -259,17 +264,20 @@ seen_of c now = seen_with c (is_some (lowest_owed c.refresh now))
 -- the statistics of a channel after one more cycle, in which this was seen and it issues this command, which is a row
 -- hit or not
 abbrev pub counted : Channel → Seen → Command → Bool → ChannelStats
-counted c seen command hit = channel_joined c.stats (cycle_with_hit c.config seen.queued seen.refreshing seen.draining (Some command) hit)
+counted c seen command hit =
+    channel_joined c.stats (cycle_with_hit c.config seen.queued seen.refreshing seen.draining (Some command) hit)
 
--- the channel once this cycle is counted: it is over, and what comes next is not known
+-- a channel once its cycle is counted, in which this was seen and it issued this command: the cycle is over, and what
+-- comes next is not known
 abbrev pub after_cycle : Channel → Seen → Command → Bool → Channel
 after_cycle c seen command hit = record c { cycle = c.cycle + 1; next_command = Unknown; stats = counted c seen command hit }
 
 -- the statistics of a cycle in which a channel issues nothing
 abbrev pub idle_cycle : Channel → ℕ → ChannelStats
-idle_cycle c now = cycle_with_hit c.config (seen_of c now).queued (seen_of c now).refreshing (seen_of c now).draining None false
+idle_cycle c now =
+    cycle_with_hit c.config (seen_of c now).queued (seen_of c now).refreshing (seen_of c now).draining None false
 
--- the statistics of a channel after the cycles before another one, each of which is like the next one, and in which it
+-- the statistics of a channel after the cycles up to `until`, each of which is like the next one, and in which it
 -- issues nothing
 abbrev pub skipped : Channel → ℕ → ChannelStats
 skipped c until = channel_joined c.stats (channel_times (until - c.cycle) (idle_cycle c c.cycle))

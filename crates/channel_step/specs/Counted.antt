@@ -1,10 +1,10 @@
 -- The statistics of one cycle, where it is known whether its command is a row hit.
---     cycle_with_hit s queued has_due drains o hit      of a cycle in which a channel does this
+--     cycle_with_hit s queued has_due drains o hit      the statistics of a cycle in which a channel does this
 use Rattle.std.specs.Prelude.{ℕ, ◌==◌, Bool, Option}
 use Rattle.sim_base.specs.declared.config.Config.{Config}
 use Rattle.sim_base.specs.declared.command.Command.{Command}
 use Rattle.sim_base.specs.declared.command.Kind.TheVariants as kind
-use Rattle.statistics.specs.Counts.{one_if}
+use Rattle.sim_base.specs.Counts.{one_if}
 use Rattle.statistics.specs.Channels.{issues, draining_of}
 use Rattle.statistics.specs.declared.channels.ChannelStats.{ChannelStats}
 

@@ -1,16 +1,16 @@
 -- What may arrive at a channel that is run alone over a span of cycles, and what lets cycles be skipped.
---     queue_room s      the places of a channel's queue
 --     is_named_by command r      a command stands in the name of a request
---     IsFit s channel steps mail inbox from until, IsFitAfter p inbox from until      messages that may arrive in a span
+--     IsFit s channel steps mail inbox from until      messages that may arrive in a span
+--     IsFitAfter p inbox from until      messages that may arrive in a span after a past
 --     idle_until steps from cycle      these steps, and cycles in which nothing is issued
---     IsIdle s channel steps mail n      a channel issues nothing in the n cycles after these steps, if nothing arrives in them
-use Rattle.std.specs.Prelude.{◌≡◌, ℕ, ◌+◌, ◌-◌, ◌*◌, ◌<◌, ◌≤◌, Bool, true, false, List, [], ◌∷◌, ◌++◌, replicate, Option, None}
+--     IsIdle s channel steps mail n      a channel issues nothing in the n cycles after these steps, if nothing arrives
+use Rattle.std.specs.Prelude.{◌≡◌, ℕ, ◌+◌, ◌-◌, ◌<◌, ◌≤◌, Bool, true, false, List, [], ◌∷◌, ◌++◌, replicate, Option, None}
 use Rattle.std.specs.List.{AllByRecursion as Each}
 use Rattle.sim_base.specs.declared.config.Config.{Config}
 use Rattle.sim_base.specs.Counts.{queue_length, source_in}
 use Rattle.sim_base.specs.History.{issued_commands, is_before}
 use Rattle.sim_base.specs.Machine.{channel_run}
-use Rattle.sim_base.specs.Scheduling.{is_source, choice}
+use Rattle.sim_base.specs.Scheduling.{is_source, choice, queue_room}
 use Rattle.sim_base.specs.declared.command.Command.{Command}
 use Rattle.sim_base.specs.declared.command.IssuedCommand.{IssuedCommand}
 use Rattle.sim_base.specs.declared.command.Source.{Source}
@@ -19,11 +19,7 @@ use Rattle.sim_base.specs.declared.message.Request.{Request}
 use Rattle.std.specs.Prelude.{Some}
 use Rattle.channel_step.specs.Past.{Steps, Past, requests_of, CarriesRequest, Differ}
 
--- the places of a channel's queue: as many as there are credits
-abbrev pub queue_room : Config → ℕ
-queue_room s = s.cores * (s.read_credits + s.write_credits)
-
--- a request is of the entry in whose name something is done, if it is done in the name of one
+-- a request is of the entry in whose name something is done, where that is done in the name of one
 abbrev pub is_of : Option Source → Request → Bool
 is_of None r = false
 is_of (Some source) r = is_source r source
@@ -57,11 +53,11 @@ pub record IsFit (s : Config) (channel : ℕ) (steps : Steps) (mail inbox : List
   pub room : (n : ℕ) → from + n < until
       → queue_length channel (channel_run s channel steps (mail ++ inbox) n) (mail ++ inbox) (from + n) ≤ queue_room s
 
--- an inbox may come behind a past, in this span
+-- these messages may arrive after a past, in this span
 abbrev pub IsFitAfter : Past → List Message → ℕ → ℕ → Type 0
 IsFitAfter p inbox from until = IsFit p.config p.channel p.steps p.mail inbox from until
 
--- these steps, and then nothing in the cycles from one on and before another
+-- these steps, and then nothing in the cycles from `from` up to `cycle`
 abbrev pub idle_until : Steps → ℕ → ℕ → Steps
 idle_until steps from cycle = steps ++ replicate (cycle - from) None
 

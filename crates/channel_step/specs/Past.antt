@@ -1,16 +1,16 @@
 -- What a channel that is run alone went through, and what it keeps of it.
 --     Steps      what a channel did, cycle by cycle
 --     Past      a channel of a machine, its steps, and the messages that arrived in them
---     past_of s channel steps mail      such a past
+--     past_of s channel steps mail      the past with these parts
 --     with_step p o, with_mail p more      a past with one step more, or with more messages
---     commands_after p, stats_after p      the commands of its steps, and their statistics
---     waiting_after p      the requests that wait after them
---     choice_after p      the command that the channel issues in the next cycle, if it issues one
+--     commands_after p, stats_after p      the commands of a past, and its statistics
+--     waiting_after p      the requests that wait after a past
+--     choice_after p      the command that a channel issues in the cycle after a past, if it issues one
 --     requests_of mail      the requests that messages carry
 --     CarriesRequest s channel m      a message carries a request for this channel, as a core of the machine sends it
---     Differ requests      no two of them are of one entry
+--     Differ requests      no two of these requests are of one entry
 --     is_named history r      an ACT was issued in the name of a request
---     IsPast p      the messages are those that may have arrived
+--     IsPast p      the messages of a past are those that may have arrived
 use Rattle.std.specs.Prelude.{◌≡◌, ℕ, ◌<◌, Bool, false, List, [], ◌∷◌, ◌++◌, length, filter_map, Option, Some, None}
 use Rattle.std.specs.List.{list_any, AllByRecursion as Each}
 use Rattle.sim_base.specs.declared.config.Config.{Config}
@@ -38,31 +38,31 @@ pub record Past : Type 0 where
   pub steps : Steps
   pub mail : List Message
 
--- such a past
+-- the past of a channel with this configuration, number, steps and messages
 abbrev pub past_of : Config → ℕ → Steps → List Message → Past
 past_of s channel steps mail = record { config = s; channel = channel; steps = steps; mail = mail }
 
--- the past with one step more
+-- a past with one step more
 abbrev pub with_step : Past → Option Command → Past
 with_step p o = record p { steps = p.steps ++ o ∷ [] }
 
--- the past with these messages as well
+-- a past with these messages as well
 abbrev pub with_mail : Past → List Message → Past
 with_mail p more = record p { mail = p.mail ++ more }
 
--- the commands of its steps
+-- the commands of the steps of a past
 abbrev pub commands_after : Past → List IssuedCommand
 commands_after p = issued_commands p.channel p.steps
 
--- the requests that wait after them
+-- the requests that wait after the steps of a past
 abbrev pub waiting_after : Past → List Request
 waiting_after p = queued_requests (commands_after p) p.mail (length p.steps)
 
--- the statistics of its steps
+-- the statistics of the steps of a past
 abbrev pub stats_after : Past → ChannelStats
 stats_after p = channel_stats p.config p.channel p.steps p.mail
 
--- the command that the channel issues in the next cycle, if it issues one
+-- the command that a channel issues in the cycle after a past, if it issues one
 abbrev pub choice_after : Past → Option Command
 choice_after p = choice p.config p.channel p.steps p.mail
 
@@ -80,7 +80,7 @@ pub record IsRequestOf (s : Config) (channel : ℕ) (m : Message) (r : Request) 
   pub place : r.place ≡ place_of s r.address
   pub channel_is : r.place.channel ≡ channel
 
--- the message has a request, and it is such a one
+-- a message has a request, and it is one for this channel, as a core of the machine sends it
 abbrev pub IsRequestIn : Config → ℕ → Message → Option Request → Type 0
 IsRequestIn s channel m (Some r) = IsRequestOf s channel m r
 IsRequestIn s channel m None = ⊥
@@ -102,7 +102,7 @@ Differ (r ∷ rs) = Each (IsOther r) rs × Differ rs
 abbrev pub is_named : List IssuedCommand → Request → Bool
 is_named history r = list_any (λ i. is_act_for (source_of r) i.command) history
 
--- Each of the messages carries a request and has arrived, and no two requests are of one entry.
+-- Each of the messages of a past carries a request and has arrived, and no two requests are of one entry.
 pub record IsPast (p : Past) : Type 0 where
   pub requests : Each (CarriesRequest p.config p.channel) p.mail
   pub arrived : Each (λ (m : Message). m.arrival < length p.steps) p.mail

@@ -1,20 +1,20 @@
 -- A channel that issues a command in a cycle.
 --     IsChosen c choice      a channel is in a cycle, and this was chosen for it
---     IsDoing c place command      it issues a command in it, and at a place a request waits
---     request_of c place      the request at a place of its log
---     column_command_at c place      the column command of that request
---     opening_command c place, closing_command c place      the ACT that it needs, and the PRE
---     command_needed c history place      what it needs after these commands
+--     IsDoing c place command      a channel issues a command in a cycle, and at a place a request waits
+--     request_of c place      the request at a place of a channel's log
+--     column_command_at c place      the column command of the request at a place
+--     opening_command c place, closing_command c place      the ACT that the request at a place needs, and the PRE
+--     command_needed c history place      what the request at a place needs after these commands
 --     rank_command p rank      what a rank needs that is to be refreshed
---     row_of channel now command      a command of a cycle, as it was issued
---     commands_with p command      the commands up to it
---     IsReadied c p command hit      it is as after a command, which it has still to count
---     HasReadied old new command hit      it is readied for a command, wherever it issues that
---     seen_after p      what is seen of it in the next cycle
---     IsReady c command hit seen      it is readied, after some past, and this was seen before
+--     as_issued channel now command      a command of a cycle, as it was issued
+--     commands_with p command      the commands of a past, and one in the cycle after it
+--     IsReadied c p command hit      a channel is as after a command, which it has still to count
+--     HasReadied old new command hit      a channel is readied for a command, wherever it issues that
+--     seen_after p      what is seen of a channel in the cycle after a past
+--     IsReady c command hit seen      a channel is readied, after some past, and this was seen before
 use Rattle.std.specs.Prelude.{◌≡◌, ℕ, ◌+◌, ◌<◌, ◌≤◌, Bool, true, List, length, is_some, Some, None}
 use Rattle.std.specs.List.{AllByRecursion as Each}
-use Rattle.sim_base.specs.Scheduling.{drains, lowest_due, queued_requests, source_of, column_command, needed_at, needed, refresh_command}
+use Rattle.sim_base.specs.Scheduling.{drains, lowest_due, queued_requests, source_of, column_command, needed_at, needed, refresh_command, queue_room}
 use Rattle.sim_base.specs.Places.{bank_in}
 use Rattle.sim_base.specs.declared.command.Command.{Command}
 use Rattle.sim_base.specs.declared.command.Command.TheVariants.{Pre}
@@ -28,9 +28,8 @@ use Rattle.statistics.specs.Channels.{issues_hit}
 use Rattle.channel_step.specs.FrFcfs.Choices.{command_of, IsFor}
 use Rattle.channel_step.specs.declared.fr_fcfs.choice.Choice.{Choice}
 use Rattle.channel_step.specs.Past.{Past, commands_after, stats_after, choice_after, requests_of, CarriesRequest, Differ}
-use Rattle.channel_step.specs.Fit.{queue_room}
-use Rattle.channel_step.specs.Queued.{marks_in, request_at}
-use Rattle.channel_step.specs.Stands.{marks_of}
+use Rattle.channel_step.specs.Queued.{activated_in, request_at}
+use Rattle.channel_step.specs.Stands.{activated_of}
 use Rattle.channel_step.specs.Channels.{CandidatesStand, KeepsServed, IsMadeFor, IsInCycle, ForCycles}
 use Rattle.channel_step.specs.declared.channel.Channel.{Channel}
 use Rattle.channel_step.specs.declared.counting.Seen.{Seen}
@@ -56,19 +55,19 @@ pub record IsDoing (c : Channel) (place : ℕ) (command : Command) : Type 0 wher
 abbrev pub request_of : Channel → ℕ → Request
 request_of c place = request_at c.queue.log place
 
--- its column command
+-- the column command of the request at a place of the log of a channel
 abbrev pub column_command_at : Channel → ℕ → Command
 column_command_at c place = column_command (request_of c place)
 
--- the ACT that it needs where no row of its bank is open
+-- the ACT that the request at a place of the log needs where no row of its bank is open
 abbrev pub opening_command : Channel → ℕ → Command
 opening_command c place = needed_at None (request_of c place)
 
--- the PRE that it needs where another row is open
+-- the PRE that the request at a place of the log needs where another row of its bank is open
 abbrev pub closing_command : Channel → ℕ → Command
 closing_command c place = Pre (bank_in (request_of c place).place) (source_of (request_of c place))
 
--- the command that it needs after these commands
+-- the command that the request at a place of the log needs after these commands
 abbrev pub command_needed : Channel → List IssuedCommand → ℕ → Command
 command_needed c history place = needed history (request_of c place)
 
@@ -77,8 +76,8 @@ abbrev pub rank_command : Past → ℕ → Command
 rank_command p rank = refresh_command p.config (commands_after p) rank
 
 -- a command of a cycle, as it was issued
-abbrev pub row_of : ℕ → ℕ → Command → IssuedCommand
-row_of channel now command = record { cycle = now; channel = channel; command = command }
+abbrev pub as_issued : ℕ → ℕ → Command → IssuedCommand
+as_issued channel now command = record { cycle = now; channel = channel; command = command }
 
 -- the commands of a past, and one in the cycle after it
 abbrev pub commands_with : Past → Command → List IssuedCommand
@@ -98,14 +97,14 @@ pub record IsReadied (c : Channel) (p : Past) (command : Command) (hit : Bool) :
   pub within_before : length (queued_requests (commands_after p) p.mail (length p.steps + 1)) ≤ queue_room p.config
   pub queue_is : waiting_requests c.queue.log ≡ queued_requests (commands_with p command) p.mail (length p.steps + 1)
   pub drained_is : c.queue.drain_decided ≡ drains p.config p.channel p.steps p.mail (length p.steps)
-  pub marks_are : marks_in c.queue.log ≡ marks_of (commands_with p command) (waiting_requests c.queue.log)
+  pub marks_are : activated_in c.queue.log ≡ activated_of (commands_with p command) (waiting_requests c.queue.log)
   pub stats_are : c.stats ≡ stats_after p
   pub candidates_stand : CandidatesStand c.bank_candidates c.queue.log (commands_with p command)
   pub banks_stand : BanksStandFor c.banks p.config (commands_after p)
   pub refreshes_stand : RefreshesStandFor c.refresh p.config (commands_after p)
   pub keeps_served : KeepsServed c.served (commands_with p command) p.mail
 
--- what is seen in the cycle after a past, before a command is issued
+-- what is seen of a channel in the cycle after a past, before a command is issued
 abbrev pub seen_after : Past → Seen
 seen_after p = record {
   queued = length (queued_requests (commands_after p) p.mail (length p.steps + 1));
@@ -121,4 +120,5 @@ pub record IsReady (c : Channel) (command : Command) (hit : Bool) (seen : Seen) 
 
 -- In each cycle in which a channel issues this command it has been readied for it.
 abbrev pub HasReadied : Channel → Channel → Command → Bool → Type 0
-HasReadied old new command hit = ForCycles old (λ past. Some command ≡ choice_after past → IsReadied new past command hit)
+HasReadied old new command hit =
+    ForCycles old (λ past. Some command ≡ choice_after past → IsReadied new past command hit)

@@ -2,7 +2,7 @@
 
 ghost use Rattle.std.specs.Prelude.{◌≡◌, true, false, ℕ, ◌+◌, ◌-◌, ◌*◌, ◌<◌, ◌≤◌, ◌^◌, ◌==◌, take, take_while, List, [], length, Some, None, is_some, nat_le, IfOk, OnOk};
 ghost use Rattle.sim_base.specs.Rules.{open_row};
-ghost use Rattle.sim_base.specs.Scheduling.{choice, due};
+ghost use Rattle.sim_base.specs.Scheduling.{choice, due, queue_room};
 ghost use Rattle.sim_base.specs.declared.config.Config.{Config};
 ghost use Rattle.sim_base.specs.declared.command.Command.{Command};
 ghost use Rattle.sim_base.specs.declared.command.IssuedCommand.{IssuedCommand};
@@ -20,13 +20,13 @@ ghost use Rattle.statistics.specs.Channels.{ChannelFits};
 ghost use Rattle.channel_step.specs.declared.next_command.NextCommand.TheVariants.{Known};
 ghost use Rattle.channel_step.specs.Past.{Past, commands_after, waiting_after, stats_after, choice_after, with_step, with_mail};
 ghost use Rattle.channel_step.specs.Channels.{KeepsServed, StandsFor, HasPast, ForPasts, StandForTheSame, PartsStand, HasMore};
-ghost use Rattle.channel_step.specs.Channels.{IsNextCommand, NextCommandIsFor, IsFound, IsQuiet, HasRank, HasBank, issues_in};
+ghost use Rattle.channel_step.specs.Channels.{IsNextCommand, NextCommandIsFor, IsFound, NoneIsIssued, HasRank, HasBank, issues_in};
 ghost use Rattle.channel_step.specs.Channels.{IsInCycle, ForCycles, IsInSomeCycle, StaysInCycle, IsNextBefore, idle_after};
 ghost use Rattle.channel_step.specs.Channels.{CountsDrains, seen_with, seen_of, counted, after_cycle, skipped};
 ghost use Rattle.channel_step.specs.Readied.{IsChosen, IsDoing, IsReadied, IsReady, HasReadied, seen_after};
 ghost use Rattle.channel_step.specs.Readied.{opening_command, closing_command, column_command_at, command_needed, rank_command};
-ghost use Rattle.channel_step.specs.Fit.{queue_room, IsFitAfter};
-ghost use Rattle.channel_step.specs.Runs.{CanStep, CanRun, HasIssued, HasAdvanced, IsDoneAfter, StandsAt, first_arrival, IsListed};
+ghost use Rattle.channel_step.specs.Fit.{IsFitAfter};
+ghost use Rattle.channel_step.specs.Runs.{CanStep, CanRun, ForSpan, HasIssued, HasAdvanced, IsDoneAfter, StandsAt, first_arrival, IsListed};
 
 use crate::arriving::admit;
 use crate::counting::{Seen, drained};
@@ -55,7 +55,7 @@ use std::ops::Range;
 pub struct Channel {
     config: Config,
     number: ChannelId,
-    /// How long what it sends travels to each core.
+    /// How long what the channel sends travels to each core.
     latencies: Vec<AnswerLatencies>,
     /// The cycle that it stands at: this many are over.
     cycle: Cycle,
@@ -64,13 +64,13 @@ pub struct Channel {
     refresh: Refresh,
     stats: ChannelStats,
     bank_candidates: BankCandidates,
-    /// What it issues next, if nothing arrives.
+    /// What the channel issues next, if nothing arrives.
     next_command: NextCommand,
-    /// The requests that it served, if they are kept.
+    /// The requests that the channel served, if they are kept.
     served: Option<Vec<ServedRequest>>,
 }
 
-/// What a channel did up to the last cycle that is over: how many messages arrived.
+/// How far a run of the channel has come: the last cycle that is over, and how many messages arrived up to it.
 #[derive(Clone, Copy)]
 struct Advance {
     arrived: usize,
@@ -213,7 +213,7 @@ impl Channel {
     fn waits_until(&self, end: Cycle) -> bool
         ensures { (s : Config) (history : List IssuedCommand) (queue : QueueView) (from : ℕ)
             → result ≡ true → IsNextCommand s history queue from self.now.next_command
-            → IsQuiet s history queue from end }
+            → NoneIsIssued s history queue from end }
     {
         match self.next_command {
             NextCommand::Known(found) => is_none_before(found, end),
@@ -221,8 +221,8 @@ impl Channel {
         }
     }
 
-    /// The next command that the channel issues, and in which cycle, if that is before `end` and nothing arrives before
-    /// that. Otherwise what was found is kept.
+    /// The next command that the channel issues, and in which cycle, if that cycle is before `end` and nothing arrives
+    /// before it. Otherwise what was found is kept.
     fn look(&mut self, now: Cycle, end: Cycle) -> Option<(Cycle, Choice)>
         requires { IsInSomeCycle self.old now }
         ensures same_queue { self.new.queue ≡ self.old.queue }
@@ -322,8 +322,8 @@ impl Channel {
         self.queue.decide_drain();
     }
 
-    /// Counts the cycles from this one on and before `until`, at most 2^62, in which nothing is issued, and nothing
-    /// arrives except in the first. The channel is in the cycle `until` then.
+    /// Counts the cycles from this one up to `until`, at most 2^62, in which nothing is issued, and nothing arrives
+    /// except in the first. The channel is in the cycle `until` then.
     #[inline(always)]
     fn wait(&mut self, until: Cycle)
         requires in_cycle { IsInSomeCycle self.old self.old.cycle }
@@ -368,8 +368,8 @@ impl Channel {
         keep(self.number, now, command, commands)
     }
 
-    /// Readies the channel for what a rank needs that is to be refreshed: a PREA, where a row is open in it, and else
-    /// its REF.
+    /// Readies the channel for what a rank needs that is to be refreshed: a PREA, where a row is open in the rank, and
+    /// else its REF.
     #[inline(always)]
     fn ready_rank(&mut self, rank: u32) -> Command
         requires { IsChosen self.old (chosen.Refresh rank) }
@@ -568,7 +568,8 @@ impl Channel {
     fn keeps(&self, older: usize) -> bool
         requires places { AreInBanks (rank_count self.now.banks) self.now.queue.log }
         requires banks { OfSameBanks self.now.bank_candidates self.now.banks }
-        requires next_command { NextCommandIsFor (rank_count self.now.banks) self.now.queue.log self.now.next_command }
+        requires next_command { NextCommandIsFor (rank_count self.now.banks)
+            self.now.queue.log self.now.next_command }
         ensures { (s : Config) (history : List IssuedCommand) (earlier : QueueView)
             → result ≡ true → HasMore self.now s history earlier older
             → IsNextCommand s history earlier self.now.cycle self.now.next_command
@@ -586,7 +587,8 @@ impl Channel {
     fn reconsider(&mut self, older: usize)
         requires places { AreInBanks (rank_count self.old.banks) self.old.queue.log }
         requires banks { OfSameBanks self.old.bank_candidates self.old.banks }
-        requires next_command { NextCommandIsFor (rank_count self.old.banks) self.old.queue.log self.old.next_command }
+        requires next_command { NextCommandIsFor (rank_count self.old.banks)
+            self.old.queue.log self.old.next_command }
         ensures rest { self.new ≡ record self.old { next_command = self.new.next_command } }
         ensures next_command { (s : Config) (history : List IssuedCommand) (earlier : QueueView)
             → HasMore self.old s history earlier older
@@ -610,7 +612,7 @@ impl Channel {
         self.next_command = NextCommand::Unknown;
     }
 
-    /// Makes places for so many requests that arrive.
+    /// Makes places for `count` requests that arrive.
     #[inline(always)]
     fn make_room(&mut self, count: usize)
         requires { length (waiting_requests self.old.queue.log) + count ≤ self.old.queue.room }
@@ -624,7 +626,7 @@ impl Channel {
     }
 
     /// Takes in those of these messages that arrive in a cycle, and decides whether the channel drains its writes in
-    /// it. Returns how many they are.
+    /// it. Returns how many messages arrived.
     fn arrive(&mut self, inbox: &[Message], now: Cycle) -> usize
         requires { CanStep self.old inbox.now now }
         ensures some { result ≡ length (take_while (λ m. m.arrival == now) inbox.now) }
@@ -645,10 +647,10 @@ impl Channel {
         due
     }
 
-    /// Goes on from the first of these cycles, where the channel stands, over the next one in which it issues a
-    /// command, or over all before the next one in which something arrives, if that comes first; and no further than
-    /// their end. What it issues, where that is kept, and sends is added to the commands and messages. On an error some
-    /// of it may be missing.
+    /// Goes on from the first of these cycles, where the channel stands, over the next cycle in which it issues a
+    /// command, or up to the next cycle in which something arrives, if that comes first; and no further than the end of
+    /// these cycles. What the channel issues, where that is kept, and what it sends is added to the commands and
+    /// messages. On an error some of it may be missing.
     #[inline(always)]
     fn advance(
         &mut self,
@@ -663,9 +665,8 @@ impl Channel {
         ensures some { IfOk result (λ advance. advance.arrived ≤ length inbox.now) }
         ensures from_now { IfOk result (λ advance. cycles.start ≤ advance.last) }
         ensures within { IfOk result (λ advance. advance.last < cycles.end) }
-        ensures done { ForPasts self.old (λ past. length past.steps ≡ cycles.start
-            → IsFitAfter past inbox.now cycles.start cycles.end
-            → IfOk result (λ advance. HasAdvanced self.new past inbox.now
+        ensures done { ForSpan self.old inbox.now cycles.start cycles.end (λ past.
+            IfOk result (λ advance. HasAdvanced self.new past inbox.now
             cycles.start (advance.last + 1) cycles.end advance.arrived
             commands.old commands.new messages.old.items messages.new.items)) }
     {
@@ -703,7 +704,7 @@ impl Channel {
     /// Looks for the next command, where it is not known, so that whoever asks when the channel acts, or runs it on,
     /// need not look again.
     #[inline(always)]
-    fn foresee(&mut self, from: Cycle)
+    fn set_next_command(&mut self, from: Cycle)
         requires { StandsAt self.old from }
         ensures { ForPasts self.old (λ past. length past.steps ≡ from → HasPast self.new past) }
     {
@@ -712,10 +713,10 @@ impl Channel {
         }
     }
 
-    /// Runs the channel over these cycles, in which these messages arrive, by arrival and then
-    /// by link. What it issues, where commands are kept, and sends is put behind what the commands and messages hold.
-    /// The only error is out of memory; what the channel and the lists hold is then not known. It goes from one cycle
-    /// in which something arrives or is issued to the next, and skips those between.
+    /// Runs the channel over these cycles, in which these messages arrive, by arrival and then by link. What it issues,
+    /// where commands are kept, and sends is put behind what the commands and messages hold. The only error is out of
+    /// memory; what the channel and the lists hold is then not known. The run goes from one cycle in which something
+    /// arrives or is issued to the next, and skips those between.
     #[inline(never)]
     pub fn run(
         &mut self,
@@ -727,9 +728,8 @@ impl Channel {
         requires can_run { CanRun self.old inbox.now cycles.start cycles.end }
         requires span { cycles.start ≤ cycles.end }
         requires until { cycles.end ≤ 2 ^ 62 }
-        ensures { ForPasts self.old (λ past. length past.steps ≡ cycles.start
-            → IsFitAfter past inbox.now cycles.start cycles.end
-            → OnOk result (IsDoneAfter self.new past inbox.now cycles.start cycles.end
+        ensures { ForSpan self.old inbox.now cycles.start cycles.end (λ past.
+            OnOk result (IsDoneAfter self.new past inbox.now cycles.start cycles.end
             commands.old commands.new messages.old.items messages.new.items)) }
     {
         let mut arrived = 0;
@@ -740,7 +740,7 @@ impl Channel {
             arrived += advance.arrived;
             now = advance.last + 1;
         }
-        self.foresee(until);
+        self.set_next_command(until);
         Ok(())
     }
 }
@@ -793,7 +793,7 @@ fn banks_of(config: &Config) -> usize
 fn is_none_before(found: Option<(Cycle, Choice)>, end: Cycle) -> bool
     ensures { (s : Config) (history : List IssuedCommand) (queue : QueueView) (from : ℕ)
         → result ≡ true → IsNextCommand s history queue from (Known found)
-        → IsQuiet s history queue from end }
+        → NoneIsIssued s history queue from end }
 {
     match found {
         Some((cycle, _)) => end <= cycle,

@@ -8,15 +8,15 @@ use sim_base::config::Config;
 /// What is seen of a channel in a cycle, before it issues a command.
 #[derive(Clone, Copy)]
 pub(crate) struct Seen {
-    /// The length of its queue.
+    /// The length of the channel's queue.
     pub queued: usize,
     /// A refresh of some rank is due.
     pub refreshing: bool,
-    /// It drains its writes.
+    /// The channel drains its writes.
     pub draining: bool,
 }
 
-/// This number of cycles of draining; None if the channel never drains.
+/// A number of cycles in which the channel drained its writes; None if it never drains.
 pub(crate) fn drained(config: &Config, cycles: u64) -> Option<u64>
     ensures { result ≡ draining_of config.now cycles }
 {

@@ -6,8 +6,8 @@ use sim_base::message::Cycle;
 /// The next command that a channel issues, if nothing arrives.
 #[derive(Clone, Copy)]
 pub(crate) enum NextCommand {
-    /// It has not been looked for since a request arrived or a command was issued.
+    /// The next command has not been looked for since a request arrived or a command was issued.
     Unknown,
-    /// The cycle in which one is issued, and that command; None if none is.
+    /// The cycle in which the next command is issued, and that command; None if none is ever issued.
     Known(Option<(Cycle, Choice)>),
 }

@@ -12,7 +12,7 @@ use sim_base::config::Config;
 use sim_base::message::{Access, ChannelId, CoreId, Cycle, Message, Payload, Request};
 use std::alloc::{AllocError, Global};
 
-/// How many cycles a reply travels to a core, and how many a credit does.
+/// How many cycles a reply travels to a core, and how many cycles a credit does.
 #[derive(Clone, Copy)]
 pub(crate) struct AnswerLatencies {
     pub reply: u32,
@@ -64,7 +64,8 @@ fn travel_to(sender: &AnsweringChannel<'_>, core: CoreId) -> AnswerLatencies
     }
 }
 
-/// The reply to a Read whose RD is issued in this cycle: it leaves with the last data, after nCL and 4 cycles of the bus.
+/// The reply to a Read whose RD is issued in this cycle: it leaves with the last data, after nCL and 4 cycles of the
+/// bus.
 #[inline(always)]
 #[tactic(auto, unfolding(sim_base::specs::History::reply))]
 fn reply_to(sender: &AnsweringChannel<'_>, source: Source, travel: AnswerLatencies) -> Message

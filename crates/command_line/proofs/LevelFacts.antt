@@ -10,7 +10,7 @@ use Rattle.clap.specs.Lexer.{long_of, short_of}
 use Rattle.clap.specs.Simple.{Shape}
 use Rattle.clap.specs.Walk.{Held, Names, Outcome, Row, Rule, Step, Text, Waiting, Walk, after_flag, after_step, all_of, arg_by_index, arg_by_long, bundle, default_rows, done, first_of, has_row, idle, long_met, long_or_other, next, nothing_held, one_of, option, plain, plain_word, positional, reading_by, refused, rows_after, settled, short_or_plain, subcommand, subcommand_met, subcommand_or_other, to_positional, trailing, value, waits, walk, walk_from, walked, walked_from, with_default, word_met}
 use Rattle.clap.specs.Takes.{is_given, is_valid, level_passes, other_passes, settle_passes, turn_passes, values_pass, walk_passes, word_passes}
-use Rattle.command_line.proofs.RowFacts.{AreFit, AreKnown, FitRows, FitsRow, IsKnown, all-known, each_passes, passes_for, with_values-fits}
+use Rattle.command_line.proofs.RowFacts.{AreFit, AreKnown, FitRows, FitsRow, IsRuleOf, all-known, each_passes, passes_for, with_values-fits}
 use Rattle.command_line.proofs.WalkFacts.{settled-fits, walk-fits}
 
 -- ---- a subcommand that is met is not `help`
@@ -103,12 +103,12 @@ abbrev pub DefaultsPass : List Rule → Type 0
 DefaultsPass [] = Unit {0}
 DefaultsPass (a ∷ rules) = (values_pass a a.defaults ≡ true) × DefaultsPass rules
 
-default_rows-fits : (rules : List Rule) (a : Rule) (defaults : List Text) (rs : List Row) → IsKnown rules a → values_pass a defaults ≡ true → FitRows rules rs
+default_rows-fits : (rules : List Rule) (a : Rule) (defaults : List Text) (rs : List Row) → IsRuleOf rules a → values_pass a defaults ≡ true → FitRows rules rs
     → FitRows rules (default_rows a.id (reading_by a) defaults rs)
 default_rows-fits rules a [] rs known pass fits = fits
 default_rows-fits rules a (v ∷ vs) rs known pass fits = with_values-fits rules a.id (reading_by a) _ (v ∷ vs) rs (omega arith) (each_passes rules a (v ∷ vs) known pass) known.fit.1 fits
 
-with_default-fits : (rules : List Rule) (a : Rule) (rs : List Row) → IsKnown rules a → values_pass a a.defaults ≡ true → FitRows rules rs → FitRows rules (with_default rs a)
+with_default-fits : (rules : List Rule) (a : Rule) (rs : List Row) → IsRuleOf rules a → values_pass a a.defaults ≡ true → FitRows rules rs → FitRows rules (with_default rs a)
 with_default-fits rules a rs known pass fits = go (has_row a.id rs) refl
   where
     go : (b : Bool) → has_row a.id rs ≡ b → FitRows rules (with_default rs a)

@@ -93,15 +93,15 @@ AreFit [] = Unit {0}
 AreFit (a ∷ rules) = IsFit a × AreFit rules
 
 -- an argument of the command
-pub record IsKnown (rules : List Rule) (a : Rule) : Type 0 where
+pub record IsRuleOf (rules : List Rule) (a : Rule) : Type 0 where
   pub fit : IsFit a
   pub passes : (v : Text) → value_passes a v ≡ true → passes_for rules a.id v ≡ true
 
-pub found-IsKnown : (p : Rule → Bool) (rules : List Rule) (a : Rule) → AreFit rules → find p rules ≡ Some a → IsKnown rules a
-found-IsKnown p [] a fit found = cc
-found-IsKnown p (x ∷ rules) a fit found = go (p x) refl (λ later. found-IsKnown p rules a fit.1 later)
+pub found-IsRuleOf : (p : Rule → Bool) (rules : List Rule) (a : Rule) → AreFit rules → find p rules ≡ Some a → IsRuleOf rules a
+found-IsRuleOf p [] a fit found = cc
+found-IsRuleOf p (x ∷ rules) a fit found = go (p x) refl (λ later. found-IsRuleOf p rules a fit.1 later)
   where
-    go : (b : Bool) → p x ≡ b → (find p rules ≡ Some a → IsKnown rules a) → IsKnown (x ∷ rules) a
+    go : (b : Bool) → p x ≡ b → (find p rules ≡ Some a → IsRuleOf rules a) → IsRuleOf (x ∷ rules) a
     go true e later =
         let is_first : Some x ≡ Some a = rw e at found in
         let same : a ≡ x = cc is_first in
@@ -120,13 +120,13 @@ found-IsKnown p (x ∷ rules) a fit found = go (p x) refl (λ later. found-IsKno
         }
 
 -- an argument of a command is one of the command with an argument more
-known-later : (x : Rule) (rules : List Rule) (a : Rule) → IsKnown rules a → IsKnown (x ∷ rules) a
+known-later : (x : Rule) (rules : List Rule) (a : Rule) → IsRuleOf rules a → IsRuleOf (x ∷ rules) a
 known-later x rules a known = record {
   fit = known.fit;
   passes = λ v pass. ap (λ b. (bytes_eq x.id a.id && value_passes x v) || b) (known.passes v pass) ∙ or-true _;
 }
 
-known-first : (x : Rule) (rules : List Rule) → IsFit x → IsKnown (x ∷ rules) x
+known-first : (x : Rule) (rules : List Rule) → IsFit x → IsRuleOf (x ∷ rules) x
 known-first x rules fit = record {
   fit = fit;
   passes = λ v pass.
@@ -137,7 +137,7 @@ known-first x rules fit = record {
 -- all of these are arguments of the command
 abbrev pub AreKnown : List Rule → List Rule → Type 0
 AreKnown rules [] = Unit {0}
-AreKnown rules (a ∷ some) = IsKnown rules a × AreKnown rules some
+AreKnown rules (a ∷ some) = IsRuleOf rules a × AreKnown rules some
 
 AreKnown-later : (x : Rule) (rules some : List Rule) → AreKnown rules some → AreKnown (x ∷ rules) some
 AreKnown-later x rules [] known = tt
@@ -149,7 +149,7 @@ all-known (x ∷ rules) fit = (known-first x rules fit.0, AreKnown-later x rules
 
 -- ---- one use of an argument
 
-pub each_passes : (rules : List Rule) (a : Rule) (values : List Text) → IsKnown rules a → values_pass a values ≡ true → list_all (passes_for rules a.id) values ≡ true
+pub each_passes : (rules : List Rule) (a : Rule) (values : List Text) → IsRuleOf rules a → values_pass a values ≡ true → list_all (passes_for rules a.id) values ≡ true
 each_passes rules a [] known pass = refl
 each_passes rules a (v ∷ values) known pass =
     let parts = both _ _ pass in
@@ -167,7 +167,7 @@ some_or_missing : (a : Rule) (values : List Text) → has_text a.missing ≡ tru
 some_or_missing a [] has = some_texts a.missing has
 some_or_missing a (v ∷ values) has = omega arith
 
-used_as-fits : (x : ArgAction) (again : Bool) (rules : List Rule) (a : Rule) (values : List Text) (rs : List Row) → IsKnown rules a
+used_as-fits : (x : ArgAction) (again : Bool) (rules : List Rule) (a : Rule) (values : List Text) (rs : List Row) → IsRuleOf rules a
     → takes_a_value x (unwrap_or_range a.range).start_inclusive a.missing ≡ true
     → nat_le (unwrap_or_range a.range).start_inclusive (length values) ≡ true
     → action_passes x again a (values_or_missing a values) rs ≡ true → FitRows rules rs
@@ -185,7 +185,7 @@ used_as-fits HelpShort again rules a values rs known one enough pass fit = cc
 used_as-fits HelpLong again rules a values rs known one enough pass fit = cc
 used_as-fits Version again rules a values rs known one enough pass fit = cc
 
-pub used-fits : (again : Bool) (rules : List Rule) (a : Rule) (values : List Text) (rs : List Row) → IsKnown rules a
+pub used-fits : (again : Bool) (rules : List Rule) (a : Rule) (values : List Text) (rs : List Row) → IsRuleOf rules a
     → use_passes again a values rs ≡ true → FitRows rules rs → FitRows rules (used a values rs)
 used-fits again rules a values rs known pass fit =
     let enough = both _ _ pass in

@@ -8,15 +8,15 @@ use Rattle.clap.specs.Lexer.{long_of, short_of}
 use Rattle.clap.specs.Simple.{Shape}
 use Rattle.clap.specs.Walk.{Held, Names, Outcome, Row, Rule, Step, Text, Waiting, Walk, after_flag, after_step, arg_by_id, arg_by_index, arg_by_long, arg_by_short, attached_value, bundle, bundle_met, bundle_step, done, flag_met, is_pending, long_met, long_or_other, next, idle, option, option_met, option_word, plain, plain_word, positional, positional_held, reacted, refused, settled, settled_rows, short_met, short_or_plain, subcommand, subcommand_met, subcommand_or_other, takes_several, takes_values, to_positional, trailing, used_by_id, value, waits, walked, walked_from, word_met}
 use Rattle.clap.specs.Takes.{bundle_step_passes, flag_word_passes, bundle_passes, flags_pass, long_passes, option_passes, other_passes, positional_passes, react_passes, settle_passes, short_passes, step_passes, turn_passes, use_passes, walk_passes, word_passes}
-use Rattle.command_line.proofs.RowFacts.{AreFit, FitRows, IsKnown, found-IsKnown, used-fits}
+use Rattle.command_line.proofs.RowFacts.{AreFit, FitRows, IsRuleOf, found-IsRuleOf, used-fits}
 
 module _ (rules : List Rule) (again : Bool) (fit : AreFit rules) where
-  known_by : (p : Rule → Bool) (a : Rule) → find p rules ≡ Some a → IsKnown rules a
-  known_by p a found = found-IsKnown p rules a fit found
+  known_by : (p : Rule → Bool) (a : Rule) → find p rules ≡ Some a → IsRuleOf rules a
+  known_by p a found = found-IsRuleOf p rules a fit found
 
   -- ---- what is pending is used
 
-  used_by_id-fits : (found : Option Rule) (values : List Text) (rs : List Row) → ((a : Rule) → found ≡ Some a → IsKnown rules a)
+  used_by_id-fits : (found : Option Rule) (values : List Text) (rs : List Row) → ((a : Rule) → found ≡ Some a → IsRuleOf rules a)
       → option_map_or (λ a. use_passes again a values rs) found true ≡ true → FitRows rules rs → FitRows rules (used_by_id found values rs)
   used_by_id-fits None values rs known pass fits = fits
   used_by_id-fits (Some a) values rs known pass fits = used-fits again rules a values rs (known a refl) pass fits
@@ -30,7 +30,7 @@ module _ (rules : List Rule) (again : Bool) (fit : AreFit rules) where
   pub settled-fits : (h : Held) → settle_passes rules again h ≡ true → FitRows rules h.rows → FitRows rules (settled rules h).rows
   settled-fits h pass fits = pending-fits h.pending h.rows pass fits
 
-  reacted-fits : (a : Rule) (values : List Text) (h : Held) → IsKnown rules a → react_passes rules again a values h ≡ true → FitRows rules h.rows
+  reacted-fits : (a : Rule) (values : List Text) (h : Held) → IsRuleOf rules a → react_passes rules again a values h ≡ true → FitRows rules h.rows
       → FitRows rules (reacted rules a values h).rows
   reacted-fits a values h known pass fits =
       let parts = both _ _ pass in
@@ -38,17 +38,17 @@ module _ (rules : List Rule) (again : Bool) (fit : AreFit rules) where
 
   -- ---- a flag or an option
 
-  option_met-fits : (a : Rule) (v : Option Text) (h : Held) → IsKnown rules a → option_passes rules again a v h ≡ true → FitRows rules h.rows
+  option_met-fits : (a : Rule) (v : Option Text) (h : Held) → IsRuleOf rules a → option_passes rules again a v h ≡ true → FitRows rules h.rows
       → FitRows rules (option_met rules a v h).0.rows
   option_met-fits a (Some v) h known pass fits = reacted-fits a (v ∷ []) h known pass fits
   option_met-fits a None h known pass fits = settled-fits h pass fits
 
-  flag_met-fits : (a : Rule) (v : Option Text) (h : Held) → IsKnown rules a → (not (is_some v) && react_passes rules again a [] h) ≡ true
+  flag_met-fits : (a : Rule) (v : Option Text) (h : Held) → IsRuleOf rules a → (not (is_some v) && react_passes rules again a [] h) ≡ true
       → FitRows rules h.rows → FitRows rules (flag_met rules a v h).0.rows
   flag_met-fits a (Some v) h known pass fits = fits
   flag_met-fits a None h known pass fits = reacted-fits a [] h known pass fits
 
-  long_met-fits : (found : Option Rule) (v : Option Text) (h : Held) → ((a : Rule) → found ≡ Some a → IsKnown rules a)
+  long_met-fits : (found : Option Rule) (v : Option Text) (h : Held) → ((a : Rule) → found ≡ Some a → IsRuleOf rules a)
       → long_passes rules again found v h ≡ true → FitRows rules h.rows → FitRows rules (long_met rules found v h).0.rows
   long_met-fits None v h known pass fits = fits
   long_met-fits (Some a) v h known pass fits = go (takes_values a) refl
@@ -58,7 +58,7 @@ module _ (rules : List Rule) (again : Bool) (fit : AreFit rules) where
       go false e = rw e (flag_met-fits a v h (known a refl) (rw e at pass) fits)
 
   short_met-fits : (found : Option Rule) (rest : Text) (h : Held) (passes : Held → Bool) (met : Held → Held × Outcome)
-      → ((a : Rule) → found ≡ Some a → IsKnown rules a)
+      → ((a : Rule) → found ≡ Some a → IsRuleOf rules a)
       → ((h : Held) → passes h ≡ true → FitRows rules h.rows → FitRows rules (met h).0.rows)
       → short_passes rules again found rest h passes ≡ true → FitRows rules h.rows → FitRows rules (short_met rules found rest h met).0.rows
   short_met-fits None rest h passes met known later pass fits = fits

@@ -49,7 +49,8 @@ IsCallForVersion words = kinds_of_fault words ≡ DisplayVersion ∷ []
 -- a text is a number of 64 bits: decimal digits alone, with or without a leading plus
 abbrev pub IsCountText : Option Text → Type 0
 IsCountText None = ⊥
-IsCountText (Some text) = IsNumeral 10 (without_leading_plus text) × (digits_value 10 (without_leading_plus text) < 2 ^ 64)
+IsCountText (Some text) =
+    IsNumeral 10 (without_leading_plus text) × (digits_value 10 (without_leading_plus text) < 2 ^ 64)
 
 -- the text is a number of 64 bits, and it is this number
 abbrev pub IsCount : Option Text → ℕ → Type 0
@@ -138,13 +139,18 @@ pub record IsCompare (rows : List Row) (dirs : List Text) (csv : Bool) : Type 0 
 -- the command of this name, with these rows, is what is asked for
 abbrev pub IsCommand : Text → List Row → Ask → Type 0
 IsCommand name rows (Run run) =
-    (name ≡ codes "run") × IsRun rows run.config.now run.cycles run.workers run.share run.tables run.out.now (map (λ t. t.now) run.traces.items)
+    (name ≡ codes "run")
+    × IsRun rows run.config.now run.cycles run.workers run.share run.tables run.out.now
+    (map (λ t. t.now) run.traces.items)
 IsCommand name rows (Check config commands) = (name ≡ codes "check") × IsCheck rows config.now commands.now
 IsCommand name rows (Map config address) = (name ≡ codes "map") × IsMap rows config.now address
-IsCommand name rows (Show show) = (name ≡ codes "show") × IsShow rows false show.dir.now show.all (option_map (λ c. c.now) show.config) show.khz
-IsCommand name rows (ShowBanks show) = (name ≡ codes "show") × IsShow rows true show.dir.now show.all (option_map (λ c. c.now) show.config) show.khz
+IsCommand name rows (Show show) =
+    (name ≡ codes "show") × IsShow rows false show.dir.now show.all (option_map (λ c. c.now) show.config) show.khz
+IsCommand name rows (ShowBanks show) =
+    (name ≡ codes "show") × IsShow rows true show.dir.now show.all (option_map (λ c. c.now) show.config) show.khz
 IsCommand name rows (Page page) =
-    (name ≡ codes "page") × IsPage rows page.dir.now page.file.now (option_map (λ c. c.now) page.config) page.khz page.from page.cycles
+    (name ≡ codes "page")
+    × IsPage rows page.dir.now page.file.now (option_map (λ c. c.now) page.config) page.khz page.from page.cycles
 IsCommand name rows (Compare dirs csv) = (name ≡ codes "compare") × IsCompare rows (map (λ t. t.now) dirs.items) csv
 IsCommand name rows (Help text) = ⊥
 IsCommand name rows (Version text) = ⊥

@@ -37,7 +37,8 @@ read_on None byte = None
 
 -- a number of thousandths that is above 0 and below a million
 abbrev pub in_range : Option Reading → Option ℕ
-in_range (Some read) = if nat_lt 0 read.thousandths && nat_lt read.thousandths 1000000000 then Some read.thousandths else None
+in_range (Some read) =
+    if nat_lt 0 read.thousandths && nat_lt read.thousandths 1000000000 then Some read.thousandths else None
 in_range None = None
 
 -- the frequency that a text states in MHz, in kHz: a decimal number with at most three places behind the point, above 0

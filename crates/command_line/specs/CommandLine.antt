@@ -79,7 +79,8 @@ command_app name rules = fold with_rule (new_app name) rules
 -- `run CONFIG --cycles N --workers N [--share WHEN] [--tables LIST] --out DIR TRACE...`
 abbrev pub run_app : App
 run_app = command_app (codes "run") (
-    config_rule ∷ required_number_rule (codes "cycles") ∷ required_number_rule (codes "workers") ∷ optional_text_rule (codes "share")
+    config_rule ∷ required_number_rule (codes "cycles") ∷ required_number_rule (codes "workers")
+    ∷ optional_text_rule (codes "share")
     ∷ optional_text_rule (codes "tables") ∷ required_text_rule (codes "out") ∷ positionals_rule (codes "trace") ∷ [])
 
 -- `check CONFIG COMMANDS`
@@ -93,12 +94,14 @@ map_app = command_app (codes "map") (config_rule ∷ positional_rule (codes "add
 -- `show DIR [--all] [--banks] [--config FILE] [--mhz N]`
 abbrev pub show_app : App
 show_app = command_app (codes "show") (
-    positional_rule (codes "dir") ∷ flag_rule (codes "all") ∷ flag_rule (codes "banks") ∷ optional_text_rule (codes "config") ∷ optional_text_rule (codes "mhz") ∷ [])
+    positional_rule (codes "dir") ∷ flag_rule (codes "all") ∷ flag_rule (codes "banks")
+    ∷ optional_text_rule (codes "config") ∷ optional_text_rule (codes "mhz") ∷ [])
 
 -- `page DIR FILE [--config FILE] [--mhz N] [--from N] [--cycles N]`
 abbrev pub page_app : App
 page_app = command_app (codes "page") (
-    positional_rule (codes "dir") ∷ positional_rule (codes "file") ∷ optional_text_rule (codes "config") ∷ optional_text_rule (codes "mhz")
+    positional_rule (codes "dir") ∷ positional_rule (codes "file") ∷ optional_text_rule (codes "config")
+    ∷ optional_text_rule (codes "mhz")
     ∷ optional_number_rule (codes "from") ∷ optional_number_rule (codes "cycles") ∷ [])
 
 -- `compare DIR DIR... [--csv]`

@@ -6,26 +6,14 @@ use Rattle.std.proofs.lemmas.Bool.{cond-true, cond-false, le-leb, lt-leb, lt-ltb
 use Rattle.std.proofs.lemmas.List.{append-nil, take-append-drop, take-take, drop-take}
 use Rattle.std.proofs.lemmas.List.Elements.{filter-append}
 use Rattle.sim_base.specs.declared.command.IssuedCommand.{IssuedCommand}
+use Rattle.sim_base.proofs.Each.{Each-get}
 use Rattle.command_table.specs.Tables.{IsRising, rows_up_to, rows_after}
 use Rattle.command_table.specs.Lefts.{AllUpTo, AllAfter}
 use Rattle.command_table.proofs.Rising.{Rising, rising-pairs}
 
--- a row before an end is the same without those behind the end
-pub get-front : (rows : List IssuedCommand) (end place : ℕ) → place < end → slice_get (take end rows) place ≡ slice_get rows place
-get-front [] zero place l = absurd (omega (arith, l))
-get-front [] (suc end) place l = refl
-get-front (row ∷ rows) zero place l = absurd (omega (arith, l))
-get-front (row ∷ rows) (suc end) zero l = refl
-get-front (row ∷ rows) (suc end) (suc place) l = get-front rows end place (omega (arith, l))
-
 -- of a part of a list, the first so many
 pub front-of-part : (rows : List IssuedCommand) (place end count : ℕ) → place + count ≤ end → drop place (take (place + count) rows) ≡ take count (drop place (take end rows))
 front-of-part rows place end count l = ap (drop place) (sym (take-take (place + count) end rows l)) ∙ drop-take place count (take end rows)
-
-each-get : (P : IssuedCommand → Type 0) (rows : List IssuedCommand) (place : ℕ) (row : IssuedCommand) → Each P rows → slice_get rows place ≡ Some row → P row
-each-get P [] place row h e = absurd (cc)
-each-get P (first ∷ rows) zero row h e = let same : first ≡ row = cc in subst P same h.0
-each-get P (first ∷ rows) (suc place) row h e = each-get P rows place row h.1 e
 
 -- where a row is up to a cycle, so are those before it
 pub up-to-here : (rows : List IssuedCommand) (count cycle : ℕ) (row : IssuedCommand) → IsRising rows → slice_get rows count ≡ Some row → row.cycle ≤ cycle → AllUpTo cycle (take (count + 1) rows)
@@ -35,7 +23,7 @@ up-to-here rows count cycle row r e l = subst (λ n. AllUpTo cycle (take n rows)
     by [] count r e = absurd (cc)
     by (first ∷ rows) zero r e = let same : first ≡ row = cc in (subst (λ (z : IssuedCommand). z.cycle ≤ cycle) (sym same) l, tt)
     by (first ∷ rows) (suc count) r e =
-        let first-first : first.cycle ≤ row.cycle = each-get (λ (z : IssuedCommand). first.cycle ≤ z.cycle) rows count row r.0 e in
+        let first-first : first.cycle ≤ row.cycle = Each-get (λ (z : IssuedCommand). first.cycle ≤ z.cycle) rows count row e r.0 in
         (omega (arith, first-first, l), by rows count r.1 e)
 
 -- where a row is after a cycle, so are those behind it

@@ -1,18 +1,11 @@
 -- What is left of a list without its first row.
-use Rattle.std.proofs.Common.{◌≡◌, ℕ, zero, suc, ◌+◌, ◌<◌, List, [], ◌∷◌, ◌++◌, length, get_or, take, drop, set, Some, None, slice_get, refl, sym, ap, ap₂, ◌∙◌, add-one, arith}
+use Rattle.std.proofs.Common.{◌≡◌, ℕ, zero, suc, ◌+◌, ◌<◌, List, [], ◌∷◌, ◌++◌, length, get_or, take, drop, set, Some, slice_get, refl, sym, ap, ap₂, ◌∙◌, add-one, arith}
 use Rattle.command_table.specs.Tables.{all_rows as all}
 use Rattle.std.specs.List.{remove}
 use Rattle.std.proofs.lemmas.List.{take_more, append-nil}
 use Rattle.std.proofs.lemmas.List.Concat.{flat_map-append}
 use Rattle.sim_base.specs.declared.command.IssuedCommand.{IssuedCommand}
 use Rattle.command_table.specs.Lefts.{first_cycle}
-
--- where a list has no row at a place, none is left from there on
-pub none-left : (rows : List IssuedCommand) (place : ℕ) → slice_get rows place ≡ None → drop place rows ≡ []
-none-left [] zero h = refl
-none-left [] (suc place) h = refl
-none-left (row ∷ rows) zero h = absurd (cc)
-none-left (row ∷ rows) (suc place) h = none-left rows place h
 
 -- what is left from a place on begins with the row there
 pub first-left : (rows : List IssuedCommand) (place : ℕ) (row : IssuedCommand) → slice_get rows place ≡ Some row → first_cycle (drop place rows) ≡ Some row.cycle

@@ -27,7 +27,8 @@ pub record IsNextOf (lists : List (List IssuedCommand)) (count place cycle : ℕ
   pub within : place < count
   pub starts : first_cycle (slice_index_or lists place []) ≡ Some cycle
   pub before : (k : ℕ) → k < place → IfSome (first_cycle (slice_index_or lists k [])) (λ first. cycle < first)
-  pub behind : (k : ℕ) → place < k → k < count → IfSome (first_cycle (slice_index_or lists k [])) (λ first. cycle ≤ first)
+  pub behind : (k : ℕ) → place < k → k < count
+      → IfSome (first_cycle (slice_index_or lists k [])) (λ first. cycle ≤ first)
 
 -- Of all lists, the one at this place begins first. Those before it begin later, and those after it no earlier.
 pub record IsNext (lists : List (List IssuedCommand)) (place : ℕ) : Type 0 where

@@ -24,7 +24,8 @@ command_of Ref rank group bank row column core entry = REF rank
 -- the command of a kind, with as many as it has of these operands, which are given together
 abbrev pub command_with : Kind → Operands → Command
 command_with kind operands =
-    command_of kind operands.bank.rank operands.bank.group operands.bank.bank operands.row operands.column operands.source.core operands.source.entry
+    command_of kind operands.bank.rank operands.bank.group operands.bank.bank operands.row operands.column
+    operands.source.core operands.source.entry
 
 -- the row that numbers of few bytes stand for: the channel is the lowest 8 bits below the row, and the rank, the group
 -- and the bank are 2 bits each below the column
@@ -45,9 +46,11 @@ operands_in (PRE bank source) = record { bank = bank; row = 0; column = 0; sourc
 operands_in (PREA rank) = record { bank = record { rank = rank; group = 0; bank = 0 }; row = 0; column = 0; source = record { core = 0; entry = 0 } }
 operands_in (REF rank) = record { bank = record { rank = rank; group = 0; bank = 0 }; row = 0; column = 0; source = record { core = 0; entry = 0 } }
 
--- its numbers are those of a usual machine and trace
+-- the numbers of a row are those of a usual machine and trace
 abbrev pub IsUsual : IssuedCommand → Type 0
 IsUsual row =
     let operands = operands_in row.command in
-    (row.cycle < 2 ^ 32) × (row.channel < 2 ^ 8) × (operands.bank.rank < 4) × (operands.bank.group < 4) × (operands.bank.bank < 4)
-    × (operands.source.core < 2 ^ 8) × (operands.source.entry < 2 ^ 32) × (operands.row < 2 ^ 24) × (operands.column < 2 ^ 10)
+    (row.cycle < 2 ^ 32) × (row.channel < 2 ^ 8) × (operands.bank.rank < 4) × (operands.bank.group < 4)
+    × (operands.bank.bank < 4)
+    × (operands.source.core < 2 ^ 8) × (operands.source.entry < 2 ^ 32) × (operands.row < 2 ^ 24)
+    × (operands.column < 2 ^ 10)

@@ -13,7 +13,7 @@ use std::marker::Model;
 pub(crate) enum Storage {
     /// In few bytes.
     Compact(Vec<Compact>),
-    /// As it is.
+    /// Each command as it is.
     Whole(Vec<IssuedCommand>),
 }
 

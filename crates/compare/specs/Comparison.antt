@@ -28,12 +28,14 @@ head_text Csv names = codes "measure"
 -- the headings of a run behind the first
 unfoldable pub heading_text : Layout → ℕ → List ℕ
 heading_text layout number =
-    cell_text layout 12 (codes "run " ++ decimal number) ++ cell_text layout 10 (codes "change " ++ decimal number ++ codes " %")
+    cell_text layout 12 (codes "run " ++ decimal number)
+    ++ cell_text layout 10 (codes "change " ++ decimal number ++ codes " %")
 
 -- the headings of the first run, and of so many others
 unfoldable pub headings_text : Layout → ℕ → List ℕ
 headings_text layout others =
-    cell_text layout 12 (codes "run 1") ++ flat_map (λ place. heading_text layout (place + 2)) (below others) ++ codes "\n"
+    cell_text layout 12 (codes "run 1") ++ flat_map (λ place. heading_text layout (place + 2)) (below others)
+    ++ codes "\n"
 
 -- the headings of runs, and lines below them
 unfoldable pub runs_text : Layout → List (List ℕ) → ℕ → List ℕ → List ℕ
@@ -43,4 +45,5 @@ runs_text layout names others lines = head_text layout names ++ headings_text la
 -- of each run; nothing for no runs
 abbrev pub comparison_text : Layout → List (List ℕ) → List RunStats → List (Option ℕ) → List ℕ
 comparison_text layout names [] tails = []
-comparison_text layout names (base ∷ others) tails = runs_text layout names (length others) (lines_text layout base others tails)
+comparison_text layout names (base ∷ others) tails =
+    runs_text layout names (length others) (lines_text layout base others tails)

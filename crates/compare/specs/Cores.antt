@@ -22,7 +22,8 @@ amount _ _ = 0
 
 -- how the entries a cycle have changed of a core that may be in both runs
 abbrev pub change_of_core : ℕ → ℕ → Option CoreStats → Option CoreStats → Option Change
-change_of_core base_cycles cycles (Some before) (Some after) = change_of (quotient before.retired base_cycles) (quotient after.retired cycles)
+change_of_core base_cycles cycles (Some before) (Some after) =
+    change_of (quotient before.retired base_cycles) (quotient after.retired cycles)
 change_of_core base_cycles cycles _ _ = None
 
 -- how the entries a cycle have changed of the core with this number, if it is in both runs
@@ -38,4 +39,6 @@ further best core tenths = if nat_lt best.tenths tenths then record { core = cor
 
 -- the core that changed most in a direction, of those that both runs have
 unfoldable pub most : Direction → RunStats → RunStats → Extreme
-most direction base run = fold (λ best core. further best core (amount direction (core_change base run core))) no_core (below (length base.cores))
+most direction base run =
+    fold (λ best core. further best core (amount direction (core_change base run core))) no_core
+    (below (length base.cores))

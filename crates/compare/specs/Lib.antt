@@ -5,7 +5,6 @@ pub mod Cores
 pub mod Lines
 pub mod Measures
 pub mod Quotients
-pub mod Strings
 pub mod Sums
 pub mod Texts
 pub mod Tails

@@ -21,13 +21,16 @@ cells_text layout base measure run =
 -- the label of a measure, and the value of the first run
 unfoldable pub beginning_text : Layout → RunStats → Measure → List ℕ
 beginning_text layout base measure =
-    label_text layout (label_of measure) ++ cell_text layout 12 (value_text layout (decimals_of measure) (value_of measure base))
+    label_text layout (label_of measure)
+    ++ cell_text layout 12 (value_text layout (decimals_of measure) (value_of measure base))
 
 -- the line of a measure
 unfoldable pub line_text : Layout → RunStats → List RunStats → Measure → List ℕ
-line_text layout base others measure = beginning_text layout base measure ++ flat_map (cells_text layout base measure) others ++ codes "\n"
+line_text layout base others measure =
+    beginning_text layout base measure ++ flat_map (cells_text layout base measure) others ++ codes "\n"
 
 -- a line for each measure, and one for p99 where it is known of each run
 unfoldable pub lines_text : Layout → RunStats → List RunStats → List (Option ℕ) → List ℕ
 lines_text layout base others tails =
-    flat_map (line_text layout base others) FIRST_MEASURES ++ tails_text layout tails ++ flat_map (line_text layout base others) LAST_MEASURES
+    flat_map (line_text layout base others) FIRST_MEASURES ++ tails_text layout tails
+    ++ flat_map (line_text layout base others) LAST_MEASURES

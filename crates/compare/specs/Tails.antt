@@ -20,12 +20,14 @@ tail_text layout tail = cell_text layout 12 (value_text layout Zero (tail_value 
 
 -- the p99 of a run, and its change from the first one
 unfoldable pub tail_cells_text : Layout → Option ℕ → Option ℕ → List ℕ
-tail_cells_text layout base tail = tail_text layout tail ++ cell_text layout 10 (change_text layout (change_of (tail_value base) (tail_value tail)))
+tail_cells_text layout base tail =
+    tail_text layout tail ++ cell_text layout 10 (change_text layout (change_of (tail_value base) (tail_value tail)))
 
 -- the line of the first run and of others
 unfoldable pub tail_line_text : Layout → Option ℕ → List (Option ℕ) → List ℕ
 tail_line_text layout base others =
-    label_text layout (codes "read latency p99") ++ tail_text layout base ++ flat_map (tail_cells_text layout base) others ++ codes "\n"
+    label_text layout (codes "read latency p99") ++ tail_text layout base
+    ++ flat_map (tail_cells_text layout base) others ++ codes "\n"
 
 -- the line of all runs; nothing for none
 abbrev pub tails_text : Layout → List (Option ℕ) → List ℕ

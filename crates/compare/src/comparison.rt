@@ -2,8 +2,8 @@
 
 ghost use Rattle.std.specs.Prelude.{◌^◌, ◌<◌, IfOk};
 ghost use Rattle.compare.specs.Comparison.{names_text, head_text, heading_text, headings_text, comparison_text};
-ghost use Rattle.measures.specs.Texts.{IsText, PutsWords};
-ghost use Rattle.compare.specs.Strings.{texts};
+ghost use Rattle.measures.specs.Texts.{PutsWords};
+ghost use Rattle.sim_base.specs.Texts.{IsText, texts_of};
 
 use crate::layout::Layout;
 use crate::lines::{CHANGE_WIDTH, VALUE_WIDTH, put_lines};
@@ -15,7 +15,7 @@ use std::alloc::{AllocError, Global};
 
 // The names of the runs, a line for each.
 fn put_names(names: &[&str], out: &mut TextBuilder)
-    ensures { PutsWords (names_text (texts names.now)) out.old out.new }
+    ensures { PutsWords (names_text (texts_of names.now)) out.old out.new }
 {
     for (place, name) in names.iter().enumerate() {
         write!(out, "run {}: ", place + 1);
@@ -26,7 +26,7 @@ fn put_names(names: &[&str], out: &mut TextBuilder)
 
 // What stands before the headings: on a screen the names of the runs, and room for the labels.
 fn put_head(layout: Layout, names: &[&str], out: &mut TextBuilder)
-    ensures { PutsWords (head_text layout (texts names.now)) out.old out.new }
+    ensures { PutsWords (head_text layout (texts_of names.now)) out.old out.new }
 {
     match layout {
         Layout::Screen => {
@@ -68,7 +68,7 @@ fn put_comparison(
     tails: &[Option<Cycle>],
     out: &mut TextBuilder,
 )
-    ensures { PutsWords (comparison_text layout (texts names.now) runs.now tails.now)
+    ensures { PutsWords (comparison_text layout (texts_of names.now) runs.now tails.now)
         out.old out.new }
 {
     if let Some((base, others)) = runs.split_first() {
@@ -101,7 +101,8 @@ pub fn compare_text(
     runs: &[Stats],
     tails: &[Option<Cycle>],
 ) -> Result<String, AllocError>
-    ensures { IfOk result (IsText (comparison_text layout (texts names.now) runs.now tails.now)) }
+    ensures { IfOk result
+        (IsText (comparison_text layout (texts_of names.now) runs.now tails.now)) }
 {
     let mut text = TextBuilder::new(alloc);
     put_comparison(layout, names, runs, tails, &mut text);

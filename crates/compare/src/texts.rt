@@ -1,7 +1,8 @@
 //! Values and changes as texts.
 
 ghost use Rattle.std.specs.Prelude.{◌≡◌, ◌^◌, ◌<◌, ◌≤◌, List, ℕ, IfOk, IfSome, string_bytes};
-ghost use Rattle.measures.specs.Texts.{IsText, PutsWords};
+ghost use Rattle.measures.specs.Texts.{PutsWords};
+ghost use Rattle.sim_base.specs.Texts.{IsText};
 ghost use Rattle.compare.specs.Texts.{rounded, fixed_text, missing_text, value_text, signed_text, change_text, cell_text, label_text};
 
 use crate::changes::Change;

@@ -1,2 +1,1 @@
 pub mod Document
-pub mod Refusals

@@ -38,14 +38,14 @@ impl<'t> Draft<'t> {
     ghost use Rattle.sim_base.specs.Values.{IsRelated, values_of};
     ghost use Rattle.config_reader.specs.Document.{draft_values, keys_of};
     ghost use Rattle.config_reader.specs.Document.Relations.{relations_of};
-    ghost use Rattle.config_reader.specs.Refusals.{IsRefusalOf};
+    ghost use Rattle.sim_base.specs.Faults.{IsFaultOf};
 
     /// Tests the keys of a document one after the other, and reads what is no number; then refuses a key that no
     /// configuration has.
     #[tactic(auto, unfolding(crate::specs::Document::keys_of))]
     pub(super) fn read(alloc: Global, table: &'t Table) -> Result<Draft<'t>, Fault>
         ensures ok { IfOk result (λ d. keys_of (table_view table.now) ≡ Ok (draft_values d)) }
-        ensures refused { IfErr result (IsRefusalOf (keys_of (table_view table.now))) }
+        ensures refused { IfErr result (IsFaultOf (keys_of (table_view table.now))) }
     {
         check_numbers(table, numbers_before_fields())?;
         let fields = read_fields(alloc, table)?;

@@ -6,7 +6,7 @@ ghost use Rattle.toml.specs.Data.{as_str};
 ghost use Rattle.toml.specs.View.{view, array_view, table_view};
 ghost use Rattle.sim_base.specs.Fields.{is_field, FieldsInOrder};
 ghost use Rattle.config_reader.specs.Document.Fields.{items_at, field_named, fields_named, are_texts, each_once, order_of, fields_of};
-ghost use Rattle.config_reader.specs.Refusals.{IsRefusalOf};
+ghost use Rattle.sim_base.specs.Faults.{IsFaultOf};
 
 use crate::keys::value_at;
 use sim_base::fault::Fault;
@@ -44,7 +44,7 @@ fn field_named(value: &Value) -> Result<Field, Fault>
 /// The fields that the items name.
 fn fields_named(alloc: Global, array: &Array) -> Result<Vec<Field>, Fault>
     ensures ok { IfOk result (λ v. fields_named (array_view array.now) ≡ Ok v.items) }
-    ensures refused { IfErr result (IsRefusalOf (fields_named (array_view array.now))) }
+    ensures refused { IfErr result (IsFaultOf (fields_named (array_view array.now))) }
 {
     let mut fields = Vec::new(alloc);
     for value in array {
@@ -102,7 +102,7 @@ fn each_once(order: &[Field]) -> bool
 #[tactic(auto, unfolding(crate::specs::Document::Fields::order_of))]
 fn order_in(alloc: Global, array: &Array) -> Result<Vec<Field>, Fault>
     ensures ok { IfOk result (λ v. order_of (array_view array.now) ≡ Ok v.items) }
-    ensures refused { IfErr result (IsRefusalOf (order_of (array_view array.now))) }
+    ensures refused { IfErr result (IsFaultOf (order_of (array_view array.now))) }
     ensures in_order { IfOk result (λ v. FieldsInOrder v.items) }
 {
     let order = fields_named(alloc, array)?;
@@ -127,7 +127,7 @@ fn array_at(table: &Table, key: Key) -> Option<&Array>
 #[tactic(auto, unfolding(crate::specs::Document::Fields::fields_of))]
 pub(super) fn read_fields(alloc: Global, table: &Table) -> Result<Vec<Field>, Fault>
     ensures ok { IfOk result (λ v. fields_of (table_view table.now) ≡ Ok v.items) }
-    ensures refused { IfErr result (IsRefusalOf (fields_of (table_view table.now))) }
+    ensures refused { IfErr result (IsFaultOf (fields_of (table_view table.now))) }
     ensures in_order { IfOk result (λ v. FieldsInOrder v.items) }
 {
     let Some(array) = array_at(table, Key::Fields) else {

@@ -6,7 +6,7 @@ ghost use Rattle.toml.specs.Parse.{parse_document};
 ghost use Rattle.toml.specs.View.{table_view};
 ghost use Rattle.sim_base.specs.Values.{values_of};
 ghost use Rattle.config_reader.specs.Document.{config_of, config_from, document_of};
-ghost use Rattle.config_reader.specs.Refusals.{IsRefusalOf};
+ghost use Rattle.sim_base.specs.Faults.{IsFaultOf};
 
 mod draft;
 mod end;
@@ -26,7 +26,7 @@ use toml::Table;
 #[tactic(auto, unfolding(crate::specs::Document::config_of))]
 fn read_table(alloc: Global, table: &Table) -> Result<Config, Fault>
     ensures ok { IfOk result (λ c. config_of (table_view table.now) ≡ Ok (values_of c)) }
-    ensures refused { IfErr result (IsRefusalOf (config_of (table_view table.now))) }
+    ensures refused { IfErr result (IsFaultOf (config_of (table_view table.now))) }
 {
     let draft = Draft::read(alloc, table)?;
     draft.check_relations()?;
@@ -36,7 +36,7 @@ fn read_table(alloc: Global, table: &Table) -> Result<Config, Fault>
 /// The configuration that a text states.
 fn read_text(alloc: Global, text: &str) -> Result<Config, Fault>
     ensures ok { IfOk result (λ c. config_from (parse_document text.now) ≡ Ok (values_of c)) }
-    ensures refused { IfErr result (IsRefusalOf (config_from (parse_document text.now))) }
+    ensures refused { IfErr result (IsFaultOf (config_from (parse_document text.now))) }
 {
     match toml::table_from_str(alloc, text) {
         Ok(table) => read_table(alloc, &table),
@@ -51,7 +51,7 @@ fn read_text(alloc: Global, text: &str) -> Result<Config, Fault>
 #[tactic(auto, using(crate::proofs::DocumentTexts::document_of_text, crate::proofs::DocumentTexts::document_of_bytes))]
 pub fn read_config(alloc: Global, bytes: &[u8]) -> Result<Config, Fault>
     ensures ok { IfOk result (λ c. document_of bytes.now ≡ Ok (values_of c)) }
-    ensures refused { IfErr result (IsRefusalOf (document_of bytes.now)) }
+    ensures refused { IfErr result (IsFaultOf (document_of bytes.now)) }
     ensures no_text { ¬ (IsUtf8 bytes.now) → result ≡ Err Fault.ConfigSyntax }
 {
     match str::from_utf8(bytes) {

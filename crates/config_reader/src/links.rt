@@ -5,7 +5,7 @@ ghost use Rattle.toml.specs.Data.{as_table};
 ghost use Rattle.toml.specs.View.{view, array_view, table_view};
 ghost use Rattle.sim_base.specs.Keys.{LatencyInRange, OverridesInRange};
 ghost use Rattle.config_reader.specs.Document.Links.{override_of, override_from, overrides_in, overrides_of};
-ghost use Rattle.config_reader.specs.Refusals.{IsRefusalOf};
+ghost use Rattle.sim_base.specs.Faults.{IsFaultOf};
 
 use crate::keys::{integer_at, key_count, number_refused_as, value_at};
 use sim_base::fault::Fault;
@@ -49,7 +49,7 @@ fn override_in(value: &Value) -> Result<Override, Fault>
 /// The overrides that the items state, one after the other.
 fn overrides_in(alloc: Global, array: &Array) -> Result<Vec<Override>, Fault>
     ensures ok { IfOk result (λ v. overrides_in (array_view array.now) ≡ Ok v.items) }
-    ensures refused { IfErr result (IsRefusalOf (overrides_in (array_view array.now))) }
+    ensures refused { IfErr result (IsFaultOf (overrides_in (array_view array.now))) }
     ensures range { IfOk result (λ v. OverridesInRange v.items) }
 {
     let mut overrides = Vec::new(alloc);
@@ -66,7 +66,7 @@ fn overrides_in(alloc: Global, array: &Array) -> Result<Vec<Override>, Fault>
 #[tactic(auto, unfolding(crate::specs::Document::Links::overrides_of))]
 pub(super) fn read_overrides(alloc: Global, table: &Table) -> Result<Vec<Override>, Fault>
     ensures ok { IfOk result (λ v. overrides_of (table_view table.now) ≡ Ok v.items) }
-    ensures refused { IfErr result (IsRefusalOf (overrides_of (table_view table.now))) }
+    ensures refused { IfErr result (IsFaultOf (overrides_of (table_view table.now))) }
     ensures range { IfOk result (λ v. OverridesInRange v.items) }
 {
     match value_at(table, Key::Link) {

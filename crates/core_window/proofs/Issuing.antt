@@ -8,7 +8,7 @@ use Rattle.std.proofs.lemmas.Bool.{cases_lt, lt-ltb, lt-leb, le-leb, ne_eqb}
 use Rattle.std.proofs.lemmas.List.Elements.{filter_map-append}
 use Rattle.std.proofs.lemmas.List.Sums.{sum_by-append}
 use Rattle.sim_base.specs.declared.config.Config.{Config}
-use Rattle.sim_base.specs.Counts.{is_read, replied_entry, is_unissued_after, issue_cycle}
+use Rattle.sim_base.specs.Counts.{is_read, replied_entry, is_unissued_after, issue_cycle, one_if}
 use Rattle.sim_base.specs.Access.{is_access}
 use Rattle.sim_base.specs.History.{below, request, request_of, issued_before, requests_between, requests_in, core_messages}
 use Rattle.sim_base.specs.Places.{place_of}
@@ -25,7 +25,6 @@ use Rattle.sim_base.proofs.Added.{core_messages-push, length-push_suc}
 use Rattle.sim_base.proofs.Grows.{issued_before-push}
 use Rattle.cpu_trace.specs.NextMemory.{IsPlainBetween}
 use Rattle.cpu_trace.specs.declared.entries.MemoryEntry.{MemoryEntry}
-use Rattle.statistics.specs.Counts.{one_if}
 use Rattle.statistics.specs.declared.final_state.Credits.{Credits}
 use Rattle.statistics.proofs.CoreCounts.{issued_before-take-le, issue_cycle-push, issue_cycle-prefix_len}
 use Rattle.statistics.proofs.Lists.{take-push}
@@ -38,7 +37,7 @@ use Rattle.core_window.proofs.Ranges.{range-add, filter_map_range-more, filter_m
 use Rattle.sim_base.proofs.Requested.{requests_between_none, requests_between_more}
 use Rattle.core_window.proofs.Segments.{request_at, one_of_segment}
 
--- the other entries that issue are Plain
+-- the entries that issue beside the memory entry are Plain
 pub plain_others : (trace : List Entry) (first m : ℕ) (e : MemoryEntry) → IsAmong trace first m e → (k : ℕ) → k < m → (first + k ≡ e.number → ⊥) → slice_get trace (first + k) ≡ Some Plain
 plain_others trace first m e h k l ne =
     ⊎_elim (λ b. h.is_plain_before (first + k) (omega arith) b) (λ a. h.is_plain_after (first + k) (omega arith) (omega arith)) (cases_lt (first + k) e.number)

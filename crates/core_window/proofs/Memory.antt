@@ -5,7 +5,7 @@ use Rattle.sim_base.specs.declared.history.CoreStep.{CoreStep}
 use Rattle.sim_base.specs.declared.trace.Stop.{Stop}
 use Rattle.cpu_trace.specs.declared.entries.MemoryEntry.{MemoryEntry}
 use Rattle.statistics.specs.Cores.{core_joined, CoreFits}
-use Rattle.statistics.specs.Counts.{one_if}
+use Rattle.sim_base.specs.Counts.{one_if}
 use Rattle.statistics.specs.declared.cores.CoreStats.{CoreStats}
 use Rattle.statistics.proofs.CoreCounts.{core_fits-before}
 use Rattle.core_window.specs.OneCycle.{cycle_counts, is_read_among, is_write_among}

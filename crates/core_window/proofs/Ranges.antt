@@ -30,7 +30,7 @@ filter_map_range-none f a zero h = refl
 filter_map_range-none f a (suc n) h =
     filter_map_range-more f a n ∙ ap₂ (λ x y. x ++ option_to_list y) (filter_map_range-none f a n (λ k l. h k (omega arith))) (h n (omega arith))
 
--- so many pass, and the next does not
+-- where the first m numbers of a range pass a test, and the next does not, the front that passes has length m
 pub prefix_len_range : (p : ℕ → Bool) (a n m : ℕ) → m < n → ((k : ℕ) → k < m → p (a + k) ≡ true) → p (a + m) ≡ false → prefix_len p (range_with_len a n) ≡ m
 prefix_len_range p a zero m l before here = absurd (omega arith)
 prefix_len_range p a (suc n) zero l before here =

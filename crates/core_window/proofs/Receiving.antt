@@ -13,7 +13,7 @@ use Rattle.std.proofs.lemmas.List.Sums.{sum_by_push}
 use Rattle.std.proofs.Math.Bool.{or-false}
 use Rattle.sim_base.specs.declared.config.Config.{Config}
 use Rattle.sim_base.specs.Config.{credit_link}
-use Rattle.sim_base.specs.Counts.{is_reply, replies, replied_entry, wait_of, issue_cycle}
+use Rattle.sim_base.specs.Counts.{is_reply, replies, replied_entry, wait_of, issue_cycle, one_if}
 use Rattle.sim_base.specs.History.{below, issued_before}
 use Rattle.sim_base.specs.Access.{is_access}
 use Rattle.sim_base.specs.Windows.{is_reply_to, is_credit}
@@ -27,12 +27,11 @@ use Rattle.sim_base.proofs.Each.{Each-append}
 use Rattle.sim_base.proofs.Ordered.{Each-weaker}
 use Rattle.sim_base.proofs.Added.{length-push_suc}
 use Rattle.sim_base.proofs.Lists.{length-filter-le}
-use Rattle.statistics.specs.Counts.{one_if}
 use Rattle.statistics.specs.Cores.{core_stats, core_joined, replies_in, is_reply_in, waited}
 use Rattle.statistics.specs.declared.cores.CoreStats.{CoreStats}
 use Rattle.statistics.specs.declared.final_state.Credits.{Credits}
 use Rattle.statistics.proofs.CoreCounts.{read_latency-le, core_stats-later, replies-push, read_latency-push}
-use Rattle.core_window.specs.Fit.{IsAwaited, IsOwed}
+use Rattle.core_window.specs.Fit.{IsAwaited, IsOutstandingCredit}
 use Rattle.core_window.specs.Inside.{credits_now, core_arrived, StandsAt}
 use Rattle.core_window.specs.Replies.{MayTakeReply, after_reply}
 use Rattle.core_window.specs.Stands.{IsPast, FollowsItsEntry, is_credit_from, credits_had, credits_spent}
@@ -173,7 +172,7 @@ unfolding outstanding_reads
 awaited_found trace steps mail entry h =
     find_own (outstanding_read trace steps mail) (own trace steps mail) entry _ (awaited_waits trace steps mail entry h) refl (issued_before steps) 0 (omega arith) (omega (arith, h.is_issued))
 
--- one that is found is left out
+-- a list without the elements that pass a test is shorter where one of them is found
 length-without : {X : Type 0} (p : X → Bool) (r : X) (xs : List X) → find p xs ≡ Some r → length (filter (λ x. not (p x)) xs) + 1 ≤ length xs
 length-without p r [] h = cc
 length-without {X = X} p r (x ∷ xs) h = by (p x) (length-without p r xs) (length-filter-le (λ x. not (p x)) xs) h
@@ -313,7 +312,7 @@ same_waiting trace steps a b h =
     waits k b = cond b (Some (record { entry = k; issued = issue_cycle steps k })) None
 
 -- a credit that is owed has room
-owed_room : (s : Config) (core : ℕ) (trace : List Entry) (steps : List CoreStep) (mail : List Message) (link : ℕ) (access : Access) (due : IsOwed s core trace steps mail link access)
+owed_room : (s : Config) (core : ℕ) (trace : List Entry) (steps : List CoreStep) (mail : List Message) (link : ℕ) (access : Access) (due : IsOutstandingCredit s core trace steps mail link access)
     → credits_of_kind access (credits_now s core trace steps mail due.channel) + 1 < 2 ^ 64
 owed_room s core trace steps mail link access.Read due = omega (arith, due.has_room, s.core_in_range.read_credits_in.1)
 owed_room s core trace steps mail link access.Write due = omega (arith, due.has_room, s.core_in_range.write_credits_in.1)
@@ -325,7 +324,7 @@ more-of access.Write hr hw sr sw l k d e f = same_credits d _ (omega arith) (ome
 
 -- the core after a credit
 pub credit-stands : (s : Config) (core : ℕ) (trace : List Entry) (steps : List CoreStep) (mail : List Message) (m : Message) (a b : CoreView) (kind : Access) (entry : ℕ)
-    → StandsAt s core trace steps mail a → m.arrival ≡ length steps → m.payload ≡ payload.Credit kind entry → IsOwed s core trace steps mail m.link kind
+    → StandsAt s core trace steps mail a → m.arrival ≡ length steps → m.payload ≡ payload.Credit kind entry → IsOutstandingCredit s core trace steps mail m.link kind
     → b ≡ record a { credits = b.credits } → length b.credits ≡ length a.credits
     → ((channel : ℕ) (c : Credits) → slice_get a.credits channel ≡ Some c → (m.link / 3 % a.config.channels ≡ channel → credits_of_kind kind c + 1 < 2 ^ 64)
     → slice_get b.credits channel ≡ Some (cond (eqb (m.link / 3 % a.config.channels) channel) (more_credit kind c) c))

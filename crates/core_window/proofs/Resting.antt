@@ -14,7 +14,7 @@ use Rattle.cpu_trace.specs.declared.entries.MemoryEntry.{MemoryEntry}
 use Rattle.statistics.specs.Cores.{core_joined, core_times}
 use Rattle.statistics.specs.declared.cores.CoreStats.{CoreStats}
 use Rattle.core_window.specs.Inside.{StandsAt, IsStanding, IsLike, Does}
-use Rattle.core_window.specs.Rests.{idle_step, Rests, IsFirstAct, IsAtRest, MayRest}
+use Rattle.core_window.specs.Rests.{idle_step, Rests, IsFirstAct, NeverActs, MayRest}
 use Rattle.core_window.proofs.Stretching.{steady-none, steady-more, none_issues, idle-like}
 use Rattle.core_window.proofs.Working.{like-self, issued_of}
 use Rattle.core_window.proofs.Retiring.{retires-by}
@@ -96,7 +96,7 @@ does_step s core trace steps mail a core_step why memory cycle_work h =
     ap (λ (x : CoreStep × Stop). x.0) (cycle_work a s core trace steps mail (like-self a) (stands-at s core trace steps mail a h)).does
 
 pub at_rest : (s : Config) (core : ℕ) (trace : List Entry) (steps : List CoreStep) (mail : List Message) (a : CoreView) (core_step : CoreStep) (why : Stop) (memory : Option MemoryEntry)
-    → core_step ≡ idle_step → Does a core_step why memory → StandsFor s core trace steps mail a → IsAtRest s core trace steps mail
+    → core_step ≡ idle_step → Does a core_step why memory → StandsFor s core trace steps mail a → NeverActs s core trace steps mail
 at_rest s core trace steps mail a core_step why memory e cycle_work h =
     record {
       now = does_step s core trace steps mail a core_step why memory cycle_work h ∙ e;

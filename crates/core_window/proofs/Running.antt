@@ -20,15 +20,14 @@ use Rattle.sim_base.specs.declared.trace.Entry.{Entry}
 use Rattle.sim_base.proofs.Arrived.{NotBefore, NotBefore-weaker}
 use Rattle.sim_base.proofs.Ordered.{Each-weaker}
 use Rattle.sim_base.proofs.Same.{step-same}
-use Rattle.statistics.specs.Counts.{one_if}
-use Rattle.sim_base.specs.Counts.{is_reply}
+use Rattle.sim_base.specs.Counts.{one_if, is_reply}
 use Rattle.sim_base.proofs.Kept.{arrived-added}
 use Rattle.sim_base.proofs.Added.{length-push_suc}
-use Rattle.sim_base.proofs.Each.{Each-append}
+use Rattle.sim_base.proofs.Each.{Each-append, Each-drop}
 use Rattle.statistics.specs.Cores.{core_stats, replies_in, is_reply_in}
 use Rattle.statistics.specs.Runs.{credits_of}
 use Rattle.statistics.specs.declared.final_state.Credits.{Credits}
-use Rattle.core_window.specs.Fit.{IsDue, IsByArrival, Fit, MayRun, Runs, RunsOnto}
+use Rattle.core_window.specs.Fit.{MayCome, IsByArrival, Fit, MayRun, Runs, RunsOnto}
 use Rattle.core_window.specs.Inside.{credits_now, StandsAt, IsStanding, IsReceiving, IsMidway, Sends, Advances, GoesOn}
 use Rattle.core_window.specs.Stands.{StandsFor, is_credit_from, credits_had}
 use Rattle.core_window.specs.Views.{CoreView}
@@ -82,7 +81,7 @@ underway-first until a sent l =
       advances = subst (λ n. Advances n a sent a sent) (sym z) (advances-none a sent);
     }
 
--- one stretch after another
+-- a core goes over one stretch of cycles after another
 sends-add : (m n : ℕ) (a b d : CoreView) (x y : List Message) → Sends m a b x → Sends n b d y → Sends (m + n) a d (x ++ y)
 sends-add m n a b d x y one two s core trace steps mail h =
     let first = one s core trace steps mail h in
@@ -229,12 +228,6 @@ next_first inbox i m h at =
     subst (Each (λ (n : Message). m.arrival ≤ n.arrival)) (sym at.rest)
     (let k : IsByArrival (m ∷ drop (i + 1) inbox) = subst IsByArrival at.rest (ordered-drop inbox i h) in (omega arith, k.0))
 
-Each-drop : (P : Message → Type 0) (inbox : List Message) (i : ℕ) → Each P inbox → Each P (drop i inbox)
-Each-drop P [] zero h = h
-Each-drop P [] (suc i) h = h
-Each-drop P (x ∷ xs) zero h = h
-Each-drop P (x ∷ xs) (suc i) h = Each-drop P xs i h.1
-
 Each-at : (P : Message → Type 0) (inbox : List Message) (i : ℕ) (m : Message) → Each P (drop i inbox) → IsAt inbox i m → P m
 Each-at P inbox i m h at = (subst (Each P) at.rest h).0
 
@@ -292,13 +285,13 @@ takes s core trace steps mail from until inbox i d e y m mid at stands =
       until_then = omega (arith, mid.until_then);
     }
 
--- it may take the message
+-- a core may take the next message of its inbox
 pub may_take : (s : Config) (core : ℕ) (trace : List Entry) (steps : List CoreStep) (mail : List Message) (from until : ℕ) (inbox : List Message) (i : ℕ) (d : CoreView) (y : List Message) (m : Message)
     → IsMidway s core trace steps mail from until inbox i d y → IsAt inbox i m → d.now ≡ m.arrival → Fit s core trace steps mail from until inbox
-    → IsDue s core trace (core_run s core trace steps (mail ++ inbox) (d.now - from)) (mail ++ take i inbox) m
+    → MayCome s core trace (core_run s core trace steps (mail ++ inbox) (d.now - from)) (mail ++ take i inbox) m
 may_take s core trace steps mail from until inbox i d y m mid at now fit =
     let split : inbox ≡ take i inbox ++ m ∷ drop (i + 1) inbox = sym (take-drop-all inbox i) ∙ ap (λ l. take i inbox ++ l) at.rest in
-    subst (λ k. IsDue s core trace (core_run s core trace steps (mail ++ inbox) (k - from)) (mail ++ take i inbox) m) (sym now) (fit.due (take i inbox) (drop (i + 1) inbox) m split)
+    subst (λ k. MayCome s core trace (core_run s core trace steps (mail ++ inbox) (k - from)) (mail ++ take i inbox) m) (sym now) (fit.due (take i inbox) (drop (i + 1) inbox) m split)
 
 has_taken-first : (a : CoreView) (from until : ℕ) (inbox : List Message) → a.now ≡ from → from ≤ until → HasTaken a from until inbox 0 a []
 unfolding core_run
@@ -371,7 +364,7 @@ taking-receives a from until inbox i d w y m may h at now =
 
 has_taken-more : (a : CoreView) (from until : ℕ) (inbox : List Message) (i : ℕ) (d e : CoreView) (y : List Message) (m : Message) → HasTaken a from until inbox i d y
     → IsAt inbox i m → d.now ≡ m.arrival
-    → ((s : Config) (core : ℕ) (trace : List Entry) (steps : List CoreStep) (mail : List Message) → StandsAt s core trace steps mail d → m.arrival ≡ length steps → IsDue s core trace steps mail m
+    → ((s : Config) (core : ℕ) (trace : List Entry) (steps : List CoreStep) (mail : List Message) → StandsAt s core trace steps mail d → m.arrival ≡ length steps → MayCome s core trace steps mail m
     → StandsAt s core trace steps (mail ++ m ∷ []) e)
     → HasTaken a from until inbox (i + 1) e y
 has_taken-more a from until inbox i d e y m h at now receives s core trace steps mail st fit =
@@ -381,7 +374,7 @@ has_taken-more a from until inbox i d e y m h at now receives s core trace steps
 
 pub taking-more : (a : CoreView) (from until : ℕ) (inbox : List Message) (i : ℕ) (d e : CoreView) (w y : List Message) (m : Message) → IsTaking a from until inbox i d w y
     → IsAt inbox i m → d.now ≡ m.arrival
-    → ((s : Config) (core : ℕ) (trace : List Entry) (steps : List CoreStep) (mail : List Message) → StandsAt s core trace steps mail d → m.arrival ≡ length steps → IsDue s core trace steps mail m
+    → ((s : Config) (core : ℕ) (trace : List Entry) (steps : List CoreStep) (mail : List Message) → StandsAt s core trace steps mail d → m.arrival ≡ length steps → MayCome s core trace steps mail m
     → StandsAt s core trace steps (mail ++ m ∷ []) e)
     → IsTaking a from until inbox (i + 1) e w y
 taking-more a from until inbox i d e w y m h at now receives =

@@ -15,7 +15,7 @@ use Rattle.sim_base.specs.History.{request_of}
 use Rattle.sim_base.specs.Windows.{is_memory, is_memory_in, has_memory}
 use Rattle.sim_base.proofs.Lists.{take_more, slice_get-drop}
 use Rattle.sim_base.proofs.Requested.{one_memory}
-use Rattle.statistics.specs.Counts.{one_if}
+use Rattle.sim_base.specs.Counts.{one_if}
 
 -- the request of the entry of a number
 abbrev pub request_at : Config → ℕ → List Entry → ℕ → ℕ → List Message

@@ -15,7 +15,7 @@ use Rattle.sim_base.proofs.Grows.{issued_before-push}
 use Rattle.cpu_trace.specs.NextMemory.{IsPlainBetween}
 use Rattle.statistics.proofs.KeepsToTrace.{first_stop-le_width, issues-le}
 use Rattle.core_window.specs.Inside.{StandsAt}
-use Rattle.core_window.specs.Rests.{idle_step, IsAtRest}
+use Rattle.core_window.specs.Rests.{idle_step, NeverActs}
 use Rattle.core_window.specs.Silence.{IsSilentUntil, KeepsSilent}
 use Rattle.core_window.specs.OneCycle.{IsSeen}
 use Rattle.core_window.specs.Views.{CoreView}
@@ -73,7 +73,7 @@ idle-issued steps (suc n) =
     ∙ (let e = issued_before-push steps idle_step in let l : issued_before (steps ++ idle_step ∷ []) ≡ issued_before steps = omega (arith, e) in l)
 
 -- a core that rests sends nothing
-pub rest-silent : (s : Config) (core : ℕ) (trace : List Entry) (steps : List CoreStep) (mail : List Message) (until : ℕ) → IsAtRest s core trace steps mail → IsSilentUntil s core trace steps mail until
+pub rest-silent : (s : Config) (core : ℕ) (trace : List Entry) (steps : List CoreStep) (mail : List Message) (until : ℕ) → NeverActs s core trace steps mail → IsSilentUntil s core trace steps mail until
 rest-silent s core trace steps mail until h n l =
     silent-by s core trace steps mail (issued_before steps) n (λ k from to. absurd (omega arith))
     (λ m k. let e : issued_before (core_run s core trace steps mail m) ≡ issued_before steps = ap issued_before (h.rests m) ∙ idle-issued steps m in omega (arith, e))

@@ -10,7 +10,7 @@ use Rattle.sim_base.specs.declared.trace.Stop.{Stop}
 use Rattle.sim_base.specs.declared.trace.Stop.TheVariants.{End, Window}
 use Rattle.core_window.specs.Causes.{first_undone, issue_count, cause_at}
 use Rattle.core_window.specs.Inside.{Does}
-use Rattle.core_window.specs.Rests.{idle_step, IsAtRest}
+use Rattle.core_window.specs.Rests.{idle_step, NeverActs}
 use Rattle.core_window.specs.Stands.{StandsFor}
 use Rattle.core_window.proofs.Resting.{at_rest}
 use Rattle.sim_base.specs.declared.config.Config.{Config}
@@ -27,18 +27,18 @@ no_issue width window number retired_by_end first_at second_at true l = omega ar
 no_issue width window number retired_by_end first_at second_at false l = omega arith
 
 -- why it stops
-abbrev pub stuck_cause : CoreView → ℕ → Stop
-stuck_cause a second_at = cause_at a.config.width a.config.window (length a.trace) a.stats.issued a.stats.retired second_at 0
+abbrev pub stalled_cause : CoreView → ℕ → Stop
+stalled_cause a second_at = cause_at a.config.width a.config.window (length a.trace) a.stats.issued a.stats.retired second_at 0
 
-pub stuck-does : (a : CoreView) (first_at second_at : ℕ) (entry : Entry) → IsSeen a.trace a.stats.issued first_at second_at entry
-    → first_undone a.stats.issued a.outstanding ≤ a.stats.retired → a.config.window ≤ a.stats.issued - a.stats.retired → Does a idle_step (stuck_cause a second_at) None
-stuck-does a first_at second_at entry seen undone most v s core trace steps mail i h =
+pub stalled-does : (a : CoreView) (first_at second_at : ℕ) (entry : Entry) → IsSeen a.trace a.stats.issued first_at second_at entry
+    → first_undone a.stats.issued a.outstanding ≤ a.stats.retired → a.config.window ≤ a.stats.issued - a.stats.retired → Does a idle_step (stalled_cause a second_at) None
+stalled-does a first_at second_at entry seen undone most v s core trace steps mail i h =
     let retired_by_end = a.stats.retired + 0 in
     let full : Bool = ltb first_at (length a.trace) && lacks_credit a.config core mail (core_messages s core trace steps) (length steps) (slice_get a.trace first_at) in
     let none : 0 ≡ issue_count a.config.width a.config.window a.stats.issued retired_by_end first_at second_at full = no_issue a.config.width a.config.window a.stats.issued retired_by_end first_at second_at full (omega arith) in
-    let cause : cause_at a.config.width a.config.window (length a.trace) a.stats.issued retired_by_end second_at 0 ≡ stuck_cause a second_at =
+    let cause : cause_at a.config.width a.config.window (length a.trace) a.stats.issued retired_by_end second_at 0 ≡ stalled_cause a second_at =
     ap (λ g. cause_at a.config.width a.config.window (length a.trace) a.stats.issued g second_at 0) (add-zero a.stats.retired) in
-    cycle_work-is s core trace steps mail a v 0 first_at second_at full 0 (stuck_cause a second_at) None i h
+    cycle_work-is s core trace steps mail a v 0 first_at second_at full 0 (stalled_cause a second_at) None i h
     (record {
       retired = omega arith;
       ahead = seen.ahead;
@@ -50,8 +50,8 @@ stuck-does a first_at second_at entry seen undone most v s core trace steps mail
       at = tt;
     })
 
-pub stuck_cause-full : (a : CoreView) (second_at : ℕ) → 0 < a.config.width → a.stats.issued - a.stats.retired ≡ a.config.window → stuck_cause a second_at ≡ cond (eqb a.stats.issued (length a.trace)) End Window
-stuck_cause-full a second_at some full =
+pub stalled_cause-full : (a : CoreView) (second_at : ℕ) → 0 < a.config.width → a.stats.issued - a.stats.retired ≡ a.config.window → stalled_cause a second_at ≡ cond (eqb a.stats.issued (length a.trace)) End Window
+stalled_cause-full a second_at some full =
     let not_width : eqb 0 a.config.width ≡ false = ne_eqb 0 a.config.width (λ e. omega arith) in
     let is_window : eqb (a.stats.issued - a.stats.retired) a.config.window ≡ true = eq-eqb (a.stats.issued - a.stats.retired) a.config.window full in
     rw (add-zero a.stats.issued, not_width, is_window) refl
@@ -128,10 +128,10 @@ seen_from trace from l =
     })
     (cases_lt first.0 (length trace))
 
--- such a core does nothing
-pub stuck-rests : (s : Config) (core : ℕ) (trace : List Entry) (steps : List CoreStep) (mail : List Message) (a : CoreView) → a.stats.issued ≤ length a.trace
+-- a stalled core does nothing
+pub stalled-rests : (s : Config) (core : ℕ) (trace : List Entry) (steps : List CoreStep) (mail : List Message) (a : CoreView) → a.stats.issued ≤ length a.trace
     → first_undone a.stats.issued a.outstanding ≤ a.stats.retired → a.config.window ≤ a.stats.issued - a.stats.retired → StandsFor s core trace steps mail a
-    → IsAtRest s core trace steps mail
-stuck-rests s core trace steps mail a within undone most h =
+    → NeverActs s core trace steps mail
+stalled-rests s core trace steps mail a within undone most h =
     let x = seen_from a.trace a.stats.issued within in
-    at_rest s core trace steps mail a idle_step (stuck_cause a x.second_at) None refl (stuck-does a x.first_at x.second_at x.entry x.seen undone most) h
+    at_rest s core trace steps mail a idle_step (stalled_cause a x.second_at) None refl (stalled-does a x.first_at x.second_at x.entry x.seen undone most) h

@@ -110,7 +110,7 @@ issue_count-reaches : (s : Config) (trace : List Entry) (number retired_by_end f
 issue_count-reaches s trace number retired_by_end first_at second_at true window retired l1 l2 = record { width = omega arith; window = omega arith; second = omega arith; first = λ e. omega arith }
 issue_count-reaches s trace number retired_by_end first_at second_at false window retired l1 l2 = record { width = omega arith; window = omega arith; second = omega arith; first = λ e. absurd (false≢true e) }
 
--- one of the limits is met
+-- one of the limits on the entries that issue is met
 abbrev Met : Config → ℕ → ℕ → ℕ → ℕ → ℕ → Bool → Type 0
 Met s number retired_by_end first_at second_at m lacks = (m ≡ s.width) ⊎ ((number + m ≡ retired_by_end + s.window) ⊎ ((number + m ≡ second_at) ⊎ ((lacks ≡ true) × (number + m ≡ first_at))))
 

@@ -16,7 +16,7 @@ use Rattle.statistics.specs.Cores.{core_joined, core_times, CoreFits, unanswered
 use Rattle.statistics.proofs.CoreStretches.{core_joined-assoc, core_joined-none}
 use Rattle.statistics.proofs.Repeats.{core_times-more, core_times-zero}
 use Rattle.statistics.specs.declared.cores.CoreStats.{CoreStats}
-use Rattle.core_window.specs.Inside.{StandsAt, IsStanding, IsLike, Advances, GoesOn, GoesQuietly, Does}
+use Rattle.core_window.specs.Inside.{StandsAt, IsStanding, IsLike, Advances, GoesOn, GoesOnWithoutSending, Does}
 use Rattle.core_window.specs.Rests.{idle_step}
 use Rattle.core_window.specs.Steady.{steady_counts, steady_view, IsSteady}
 use Rattle.core_window.specs.OneCycle.{IsWork, IsIssued, cycle_counts}
@@ -42,7 +42,7 @@ no_finish before r len now (inr h) =
     and_false true = refl
     and_false false = refl
 
--- one cycle more
+-- the counts of cycles in which a core does the same, with one cycle more
 pub steady-more : (a : CoreStats) (core_step : CoreStep) (why : Stop) (n before len later : ℕ) → (core_step.retired ≡ 0) ⊎ (before + core_step.retired < len)
     → core_joined (core_joined a (core_times n (steady_counts core_step why))) (cycle_counts core_step why None before len later) ≡ core_joined a (core_times (suc n) (steady_counts core_step why))
 steady-more a core_step why n before len later h =
@@ -99,7 +99,7 @@ steady-advances a (suc n) core_step why sent h =
     subst (λ k. Advances k a sent (steady_view a core_step why (suc n)) sent) sum
     (advances-add n 1 a v (steady_view a core_step why (suc n)) sent sent sent (steady-advances a n core_step why sent (steady-fewer a n core_step why h)) one)
 
--- its counts fit
+-- the counts of a core fit their words after a stretch
 pub steady-fits : (a : CoreView) (n : ℕ) (core_step : CoreStep) (why : Stop) → IsStanding a → IsSteady a n core_step why → 0 < n → length a.trace ≤ 2 ^ 62 → a.now + n < 2 ^ 62
     → CoreFits (core_joined a.stats (core_times n (steady_counts core_step why)))
 steady-fits a zero core_step why i h l len early = absurd (omega arith)
@@ -153,13 +153,9 @@ cycle-goes a b until before after l e h =
     let retired_by_end : 1 ≡ b.now - a.now = omega arith in
     record { later = omega arith; until_then = omega arith; advances = subst (λ k. Advances k a before b after) retired_by_end h }
 
-pub ok-both : {T E : Type 0} (r : Result T E) (P Q R : Type 0) → (P → Q → R) → OnOk r P → OnOk r Q → OnOk r R
-ok-both (Ok x) P Q R f p q = f p q
-ok-both (Err e) P Q R f p q = p
-
 -- no cycle
-pub quiet-none : (a : CoreView) (until : ℕ) → a.now ≤ until → GoesQuietly until a a
-quiet-none a until l =
+pub unsent-none : (a : CoreView) (until : ℕ) → a.now ≤ until → GoesOnWithoutSending until a a
+unsent-none a until l =
     let z : a.now - a.now ≡ 0 = omega arith in
     record {
       since = omega arith;
@@ -168,23 +164,23 @@ quiet-none a until l =
     }
 
 -- a stretch
-pub quiet-steady : (a b : CoreView) (n until : ℕ) (core_step : CoreStep) (why : Stop) → IsSteady a n core_step why → b ≡ steady_view a core_step why n → a.now + n ≤ until → GoesQuietly until a b
-quiet-steady a b n until core_step why h e u =
+pub unsent-steady : (a b : CoreView) (n until : ℕ) (core_step : CoreStep) (why : Stop) → IsSteady a n core_step why → b ≡ steady_view a core_step why n → a.now + n ≤ until → GoesOnWithoutSending until a b
+unsent-steady a b n until core_step why h e u =
     let retired_by_end : n ≡ a.now + n - a.now = omega arith in
-    subst (GoesQuietly until a) (sym e)
+    subst (GoesOnWithoutSending until a) (sym e)
     (record {
       since = omega arith;
       until_then = u;
       advances = λ sent. subst (λ k. Advances k a sent (steady_view a core_step why n) sent) retired_by_end (steady-advances a n core_step why sent h);
     })
 
-pub quiet-standing : (a b : CoreView) (until : ℕ) → GoesQuietly until a b → IsStanding a → IsStanding b
-quiet-standing a b until h i =
+pub unsent-standing : (a b : CoreView) (until : ℕ) → GoesOnWithoutSending until a b → IsStanding a → IsStanding b
+unsent-standing a b until h i =
     record { s = i.s; core = i.core; trace = i.trace; steps = core_run i.s i.core i.trace i.steps i.mail (b.now - a.now); mail = i.mail; stands = ((h.advances []).sends i.s i.core i.trace i.steps i.mail i.stands).0 }
 
--- and then the rest of the way
-pub quiet-then : (a b d : CoreView) (until : ℕ) (x z : List Message) → GoesQuietly until a b → GoesOn until b x d z → GoesOn until a x d z
-quiet-then a b d until x z q g =
+-- a stretch in which nothing is sent, and then the rest of the way
+pub unsent-then : (a b d : CoreView) (until : ℕ) (x z : List Message) → GoesOnWithoutSending until a b → GoesOn until b x d z → GoesOn until a x d z
+unsent-then a b d until x z q g =
     let sum : (b.now - a.now) + (d.now - b.now) ≡ d.now - a.now = omega (arith, q.since, g.later) in
     record {
       later = omega (arith, q.since, g.later);
@@ -192,8 +188,8 @@ quiet-then a b d until x z q g =
       advances = subst (λ n. Advances n a x d z) sum (advances-add (b.now - a.now) (d.now - b.now) a b d x x z (q.advances x) g.advances);
     }
 
-pub underway-quiet : (until : ℕ) (a b d : CoreView) (x y : List Message) → IsUnderway until a x b y → GoesQuietly until b d → IsUnderway until a x d y
-underway-quiet until a b d x y u q =
+pub underway-unsent : (until : ℕ) (a b d : CoreView) (x y : List Message) → IsUnderway until a x b y → GoesOnWithoutSending until b d → IsUnderway until a x d y
+underway-unsent until a b d x y u q =
     let sum : (b.now - a.now) + (d.now - b.now) ≡ d.now - a.now = omega (arith, u.since, q.since) in
     record {
       since = omega (arith, u.since, q.since);
@@ -201,8 +197,8 @@ underway-quiet until a b d x y u q =
       advances = subst (λ n. Advances n a x d y) sum (advances-add (b.now - a.now) (d.now - b.now) a b d x y y u.advances (q.advances y));
     }
 
-pub quiet-all : (a b : CoreView) (until : ℕ) (x : List Message) → GoesQuietly until a b → a.now < until → until ≤ b.now → GoesOn until a x b x
-quiet-all a b until x q l m = record { later = omega arith; until_then = q.until_then; advances = q.advances x }
+pub unsent-all : (a b : CoreView) (until : ℕ) (x : List Message) → GoesOnWithoutSending until a b → a.now < until → until ≤ b.now → GoesOn until a x b x
+unsent-all a b until x q l m = record { later = omega arith; until_then = q.until_then; advances = q.advances x }
 
 pub ok-map : {T E : Type 0} (r : Result T E) (P Q : Type 0) → (P → Q) → OnOk r P → OnOk r Q
 ok-map (Ok x) P Q f p = f p

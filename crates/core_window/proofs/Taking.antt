@@ -16,7 +16,7 @@ is_it e read = eqb read.entry e
 abbrev is_other : ℕ → OutstandingRead → Bool
 is_other e read = not (eqb read.entry e)
 
--- those with larger numbers are others
+-- the Reads with larger numbers are others than the one that is taken out
 all_others : (e : ℕ) (reads : List OutstandingRead) → Each (λ (r : OutstandingRead). e < r.entry) reads → filter (is_other e) reads ≡ reads
 all_others e [] h = refl
 all_others e (read ∷ reads) h =

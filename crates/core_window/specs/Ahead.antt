@@ -1,6 +1,6 @@
 -- What a core keeps of the next two memory entries beside their numbers.
 --     IsPlaced s entry place      where a Read or a Write lies
---     IsKnown s trace ahead      where the first lies, and which entry the second is
+--     IsKnown s trace ahead      where the first memory entry lies, and which entry the second is
 use Rattle.std.specs.Prelude.{◌≡◌, ℕ, ◌<◌, List, length, slice_get, Some}
 use Rattle.sim_base.specs.Places.{place_of}
 use Rattle.sim_base.specs.declared.config.Config.{Config}

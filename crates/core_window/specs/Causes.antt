@@ -1,7 +1,7 @@
 -- How many entries retire and issue in a cycle, by what waits and what is ahead.
---     first_undone issued outstanding      the first entry that isn't done
---     issue_count width window number retired_by_end first_at second_at lacks      how many issue
---     cause_at width window len number retired_by_end second_at m      why no more than m do
+--     first_undone issued outstanding      the first entry that is not done
+--     issue_count width window number retired_by_end first_at second_at lacks      how many entries issue
+--     cause_at width window len number retired_by_end second_at m      why no more than m entries issue
 use Rattle.std.specs.Prelude.{ℕ, ◌+◌, ◌-◌, ◌==◌, min, Bool, List, [], ◌∷◌, if◌then◌else◌}
 use Rattle.core_window.specs.declared.outstanding.OutstandingRead.{OutstandingRead}
 use Rattle.sim_base.specs.declared.trace.Stop.{Stop}
@@ -23,7 +23,7 @@ cause_at width window len number retired_by_end second_at m =
     else (if number + m == second_at then stop.Memory
     else stop.Credit)))
 
--- the first entry that isn't done, where this number of entries were issued and these Reads wait
+-- the first entry that is not done, where `issued` entries were issued and these Reads wait
 abbrev pub first_undone : ℕ → List OutstandingRead → ℕ
 first_undone issued [] = issued
 first_undone issued (read ∷ others) = read.entry

@@ -1,5 +1,5 @@
 -- What contracts see of a core.
---     view_of core      all that it keeps
+--     view_of core      all that a core keeps
 use Rattle.core_window.specs.Views.{CoreView}
 use Rattle.core_window.specs.Waiting.{waiting}
 use Rattle.core_window.specs.declared.core_unit.Core.{Core}

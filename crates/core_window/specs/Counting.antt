@@ -1,13 +1,14 @@
 -- Counts and lists of a core, after what is added to them.
 --     counted_cycle stats core_step why memory len now      statistics with one cycle more
---     counted_cycles stats core_step why n      with n cycles more, in each of which the core does the same
+--     counted_cycles stats core_step why n      statistics with n cycles more, in each of which the core does the same
 --     with_reads outstanding memory now      the Reads that wait, with the one that issues
 --     SendsFor memory s core now before after      the request of the entry that issues is put behind what was sent
---     read_of entry outstanding, without_read entry outstanding      the Read of a number among those that wait; the others
+--     read_of entry outstanding      the Read of a number among those that wait
+--     without_read entry outstanding      the Reads that wait, without the one of a number
 --     IsTakenOut entry old taken new      the Read of a number is taken out of those that wait
 --     HasRoom access credits      one credit more of this kind can be counted
 --     IsCreditedAt channel access old new      one credit more is held for one channel, and for the others what was
---     IsSpentAt channel access old new      one credit less is held for it, and for the others what was
+--     IsSpentAt channel access old new      one credit less is held for one channel, and for the others what was
 use Rattle.std.specs.Prelude.{◌≡◌, ℕ, ◌+◌, ◌^◌, ◌<◌, ◌==◌, not, List, ◌++◌, find, filter, slice_get, Option, Some, if◌then◌else◌}
 use Rattle.sim_base.specs.declared.config.Config.{Config}
 use Rattle.sim_base.specs.declared.history.CoreStep.{CoreStep}
@@ -25,7 +26,8 @@ use Rattle.core_window.specs.declared.outstanding.OutstandingRead.{OutstandingRe
 -- statistics with the cycle `now` more, in which a core with a trace of this length does this; its replies are not
 -- counted
 abbrev pub counted_cycle : CoreStats → CoreStep → Stop → Option MemoryEntry → ℕ → ℕ → CoreStats
-counted_cycle stats core_step why memory len now = core_joined stats (cycle_counts core_step why memory stats.retired len now)
+counted_cycle stats core_step why memory len now =
+    core_joined stats (cycle_counts core_step why memory stats.retired len now)
 
 -- statistics with n cycles more, in each of which the core does the same
 abbrev pub counted_cycles : CoreStats → CoreStep → Stop → ℕ → CoreStats
@@ -44,7 +46,7 @@ SendsFor memory s core now before after = after ≡ before ++ requests_issued s 
 abbrev pub read_of : ℕ → List OutstandingRead → Option OutstandingRead
 read_of entry outstanding = find (λ read. read.entry == entry) outstanding
 
--- those that wait, without the Read of a number
+-- the Reads that wait, without the Read of a number
 abbrev pub without_read : ℕ → List OutstandingRead → List OutstandingRead
 without_read entry outstanding = filter (λ read. not (read.entry == entry)) outstanding
 
@@ -54,7 +56,7 @@ abbrev pub IsTakenOut : ℕ → List OutstandingRead → Option OutstandingRead 
 IsTakenOut entry old taken new =
     (read : OutstandingRead) → read_of entry old ≡ Some read → (taken ≡ Some read) × (new ≡ without_read entry old)
 
--- statistics with one reply more, which was waited for so long
+-- statistics with one reply more, which was waited for over `waited` cycles
 abbrev pub counted_reply : CoreStats → ℕ → CoreStats
 counted_reply stats waited = record stats { replies = stats.replies + 1; read_latency = stats.read_latency + waited }
 

@@ -1,9 +1,9 @@
 -- Messages that may arrive at a core.
---     IsDue s core trace steps mail m      a message may come in the cycle after these steps, and after this mail
+--     MayCome s core trace steps mail m      a message may come in the cycle after these steps, and after this mail
 --     Fit s core trace steps mail from until inbox      these messages may come in a span of cycles
---     MayRun view from until inbox      they may come to a core as it stands
---     Runs before from until inbox after sent      what it then does and sends
---     RunsOnto before from until inbox after held holds      the same, with a list behind which it puts what it sends
+--     MayRun view from until inbox      these messages may come in a span of cycles to a core as it stands
+--     Runs before from until inbox after sent      what a core does and sends in a span in which these messages come
+--     RunsOnto before from until inbox after held holds      what a core does in a span, and puts behind a list
 use Rattle.std.specs.Prelude.{◌≡◌, ℕ, ◌+◌, ◌-◌, ◌<◌, ◌≤◌, true, false, List, [], ◌∷◌, ◌++◌}
 use Rattle.std.specs.List.{AllByRecursion as Each}
 use Rattle.sim_base.specs.declared.config.Config.{Config}
@@ -28,41 +28,43 @@ pub record IsAwaited (trace : List Entry) (steps : List CoreStep) (mail : List M
   pub is_first : is_answered mail entry ≡ false
 
 -- a credit comes on the link of a channel, and the core does not hold all its credits for that channel
-pub record IsOwed (s : Config) (core : ℕ) (trace : List Entry) (steps : List CoreStep) (mail : List Message) (link : ℕ) (access : Access) : Type 0 where
+pub record IsOutstandingCredit (s : Config) (core : ℕ) (trace : List Entry) (steps : List CoreStep) (mail : List Message) (link : ℕ) (access : Access) : Type 0 where
   pub channel : ℕ
   pub exists : channel < s.channels
   pub on_its_link : link ≡ credit_link s core channel
-  pub has_room : credits_had s core mail channel access < credit_cap s access + credits_spent s core trace steps channel access
+  pub has_room : credits_had s core mail channel access < credit_cap s access
+      + credits_spent s core trace steps channel access
 
 -- what a message may bring in the cycle after these steps, after this mail: a reply or a credit
-abbrev pub IsDuePayload : Config → ℕ → List Entry → List CoreStep → List Message → ℕ → Payload → Type 0
-IsDuePayload s core trace steps mail link (payload.Reply entry) = IsAwaited trace steps mail entry
-IsDuePayload s core trace steps mail link (payload.Credit access entry) = IsOwed s core trace steps mail link access
-IsDuePayload s core trace steps mail link (payload.Request r) = ⊥
+abbrev pub MayCarry : Config → ℕ → List Entry → List CoreStep → List Message → ℕ → Payload → Type 0
+MayCarry s core trace steps mail link (payload.Reply entry) = IsAwaited trace steps mail entry
+MayCarry s core trace steps mail link (payload.Credit access entry) = IsOutstandingCredit s core trace steps mail link access
+MayCarry s core trace steps mail link (payload.Request r) = ⊥
 
 -- a message may come in the cycle after these steps, after this mail
-abbrev pub IsDue : Config → ℕ → List Entry → List CoreStep → List Message → Message → Type 0
-IsDue s core trace steps mail m = IsDuePayload s core trace steps mail m.link m.payload
+abbrev pub MayCome : Config → ℕ → List Entry → List CoreStep → List Message → Message → Type 0
+MayCome s core trace steps mail m = MayCarry s core trace steps mail m.link m.payload
 
 -- each message comes no sooner than those before it
 abbrev pub IsByArrival : List Message → Type 0
 IsByArrival [] = Unit {0}
 IsByArrival (m ∷ ms) = Each (λ n. m.arrival ≤ n.arrival) ms × IsByArrival ms
 
--- Messages that may arrive at a core in the cycles from one on and before another, where it did these steps and had
--- this mail.
+-- Messages that may arrive at a core in the cycles from `from` up to `until`, where it did these steps and had this
+-- mail.
 pub record Fit (s : Config) (core : ℕ) (trace : List Entry) (steps : List CoreStep) (mail : List Message) (from until : ℕ) (inbox : List Message) : Type 0 where
-  -- they arrive in these cycles: the core would not see a later one, and an earlier one would change what it did
+  -- the messages arrive in these cycles: the core would not see a later one, and an earlier one would change what it
+  -- did
   pub from_then : Each (λ m. from ≤ m.arrival) inbox
   pub until_then : Each (λ m. m.arrival < until) inbox
-  -- they stand in the order of their arrival, so that the core takes them one after the other
+  -- the messages stand in the order of their arrival, so that the core takes them one after the other
   pub in_order : IsByArrival inbox
-  -- each may come in its cycle, after those before it: the core can tell which Read a reply is of, and counts no more
-  -- credits than it ever had
+  -- each message may come in its cycle, after those before it: the core can tell which Read a reply is of, and counts
+  -- no more credits than it ever had
   pub due : (before after : List Message) (m : Message) → inbox ≡ before ++ m ∷ after
-      → IsDue s core trace (core_run s core trace steps (mail ++ inbox) (m.arrival - from)) (mail ++ before) m
+      → MayCome s core trace (core_run s core trace steps (mail ++ inbox) (m.arrival - from)) (mail ++ before) m
 
--- a core stands for some steps and messages, after which these may arrive
+-- a core stands for some steps and messages, after which these messages may arrive in a span
 pub record MayRun (view : CoreView) (from until : ℕ) (inbox : List Message) : Type 0 where
   pub s : Config
   pub core : ℕ
@@ -73,9 +75,8 @@ pub record MayRun (view : CoreView) (from until : ℕ) (inbox : List Message) : 
   pub fit : Fit s core trace steps mail from until inbox
 
 -- A core goes over a span of cycles, in which these messages arrive, from one state to another, and sends these
--- messages:
--- whatever past it stood for that the arrivals are fit for, it then stands for the longer run, and has sent what that
--- run sends more.
+-- messages. For each past that the core may have, after which the messages may arrive, it then stands for the longer
+-- run, and has sent what that run sends more.
 abbrev pub Runs : CoreView → ℕ → ℕ → List Message → CoreView → List Message → Type 0
 Runs before from until inbox after sent =
     (s : Config) (core : ℕ) (trace : List Entry) (steps : List CoreStep) (mail : List Message)

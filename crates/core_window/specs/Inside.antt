@@ -1,9 +1,10 @@
 -- What a core stands for within a span, where messages of the cycle at which it stands may have come already.
---     StandsAt s core trace steps mail view      what the core stands for
---     Sends n a b sent      a core goes n cycles, in which no message comes, and sends these
---     Advances n a before b after      the same, with a list behind which it puts them
---     GoesOn until a b sent      a core goes some cycles, at most up to a cycle
---     GoesQuietly until a b      a core goes zero or more cycles, and sends nothing
+--     StandsAt s core trace steps mail view      what a core stands for within a span
+--     Sends n a b sent      a core goes n cycles, in which no message comes, and sends these messages
+--     Advances n a before b after      a core goes n cycles, in which no message comes, and adds what it sends
+--     GoesOn until a before b after      a core goes some cycles, at most up to `until`, and adds what it sends
+--     GoesOnWithoutSending until a b      a core goes zero or more cycles, and sends nothing
+--     IsReceiving view m      a core stands at the cycle in which a message comes
 --     Does view core_step why memory      what a core does in the next cycle
 use Rattle.std.specs.Prelude.{◌≡◌, ℕ, ◌-◌, ◌<◌, ◌≤◌, List, ◌++◌, length, take, drop, slice_get, Option, Some}
 use Rattle.std.specs.List.{AllByRecursion as Each}
@@ -19,7 +20,7 @@ use Rattle.cpu_trace.specs.declared.entries.MemoryEntry.{MemoryEntry}
 use Rattle.statistics.specs.Cores.{core_stats, core_joined, replies_in, only_replies}
 use Rattle.statistics.specs.declared.cores.CoreStats.{CoreStats}
 use Rattle.statistics.specs.declared.final_state.Credits.{Credits}
-use Rattle.core_window.specs.Fit.{IsDue}
+use Rattle.core_window.specs.Fit.{MayCome}
 use Rattle.core_window.specs.Stands.{IsPast, credits_had, credits_spent}
 use Rattle.core_window.specs.OneCycle.{IsWork}
 use Rattle.core_window.specs.Views.{CoreView}
@@ -45,7 +46,8 @@ pub record StandsAt (s : Config) (core : ℕ) (trace : List Entry) (steps : List
   pub now : view.now ≡ length steps
   pub outstanding : view.outstanding ≡ outstanding_reads trace steps mail
   pub channels : length view.credits ≡ s.channels
-  pub credits : (channel : ℕ) → channel < s.channels → slice_get view.credits channel ≡ Some (credits_now s core trace steps mail channel)
+  pub credits : (channel : ℕ) → channel < s.channels
+      → slice_get view.credits channel ≡ Some (credits_now s core trace steps mail channel)
   pub stats : view.stats ≡ core_joined (core_stats s core trace steps mail) (core_arrived steps mail)
   pub past : IsPast s core trace steps mail
 
@@ -73,14 +75,14 @@ pub record Advances (n : ℕ) (a : CoreView) (before : List Message) (b : CoreVi
   pub behind : after ≡ before ++ sent
   pub sends : Sends n a b sent
 
--- a core goes on by some cycles, at most up to a cycle, while no further message comes
+-- a core goes on by some cycles, at most up to `until`, while no further message comes
 pub record GoesOn (until : ℕ) (a : CoreView) (before : List Message) (b : CoreView) (after : List Message) : Type 0 where
   pub later : a.now < b.now
   pub until_then : b.now ≤ until
   pub advances : Advances (b.now - a.now) a before b after
 
--- a core goes on by zero or more cycles, at most up to a cycle, while no further message comes, and sends nothing
-pub record GoesQuietly (until : ℕ) (a b : CoreView) : Type 0 where
+-- a core goes on by zero or more cycles, at most up to `until`, while no further message comes, and sends nothing
+pub record GoesOnWithoutSending (until : ℕ) (a b : CoreView) : Type 0 where
   pub since : a.now ≤ b.now
   pub until_then : b.now ≤ until
   pub advances : (sent : List Message) → Advances (b.now - a.now) a sent b sent
@@ -94,14 +96,16 @@ pub record IsReceiving (view : CoreView) (m : Message) : Type 0 where
   pub mail : List Message
   pub stands : StandsAt s core trace steps mail view
   pub now : m.arrival ≡ length steps
-  pub due : IsDue s core trace steps mail m
+  pub due : MayCome s core trace steps mail m
 
--- within a span a core has taken a number of messages of its inbox, and sent these; no other comes before the cycle
--- where it stands
+-- within a span a core has taken the first `taken` messages of its inbox, and sent these; no other comes before the
+-- cycle where it stands
 pub record IsMidway (s : Config) (core : ℕ) (trace : List Entry) (steps : List CoreStep) (mail : List Message) (from until : ℕ) (inbox : List Message) (taken : ℕ) (view : CoreView) (sent : List Message) : Type 0 where
   pub since : from ≤ view.now
-  pub stands : StandsAt s core trace (core_run s core trace steps (mail ++ inbox) (view.now - from)) (mail ++ take taken inbox) view
-  pub messages : core_messages s core trace (core_run s core trace steps (mail ++ inbox) (view.now - from)) ≡ core_messages s core trace steps ++ sent
+  pub stands : StandsAt s core trace (core_run s core trace steps (mail ++ inbox) (view.now - from))
+      (mail ++ take taken inbox) view
+  pub messages : core_messages s core trace (core_run s core trace steps (mail ++ inbox) (view.now - from))
+      ≡ core_messages s core trace steps ++ sent
   pub others : Each (λ m. view.now ≤ m.arrival) (drop taken inbox)
   pub until_then : view.now ≤ until
 
@@ -115,7 +119,7 @@ pub record IsLike (a v : CoreView) : Type 0 where
   pub issued : v.stats.issued ≡ a.stats.issued
   pub retired : v.stats.retired ≡ a.stats.retired
 
--- what a core does in the next cycle, if no further message comes: all that is like it does the same
+-- what a core does in the next cycle, if no further message comes: each core that is like this one does it
 abbrev pub Does : CoreView → CoreStep → Stop → Option MemoryEntry → Type 0
 Does a core_step why memory =
     (v : CoreView) (s : Config) (core : ℕ) (trace : List Entry) (steps : List CoreStep) (mail : List Message)

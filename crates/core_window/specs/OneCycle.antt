@@ -1,12 +1,12 @@
 -- What a core does in a cycle.
 --     IsAhead trace from first_at second_at      where the next two memory entries stand
---     IsSeen trace from first_at second_at entry      the same, and which entry the first is
+--     IsSeen trace from first_at second_at entry      where the next two memory entries stand, and what the first is
 --     IsIssued trace first m memory      the one memory entry that is among some that issue, if one is
 --     more_credit access c, less_credit access c      one credit more, and one less
 --     cycle_counts ..      what statistics count in a cycle, except for replies
 use Rattle.std.specs.Prelude.{◌≡◌, ℕ, ◌+◌, ◌-◌, ◌<◌, ◌≤◌, nat_lt, nat_le, Bool, true, false, ◌&&◌, List, [], ◌∷◌, ◌==◌, length, slice_get, Option, Some, None, if◌then◌else◌}
 use Rattle.std.specs.Option.{IfSome, option_to_list}
-use Rattle.sim_base.specs.Counts.{is_read, is_write}
+use Rattle.sim_base.specs.Counts.{is_read, is_write, one_if}
 use Rattle.sim_base.specs.Windows.{is_memory, is_memory_in, lacks_credit, stop_after, first_stop, step}
 use Rattle.sim_base.specs.History.{retired_before, issued_before, core_messages, request_of}
 use Rattle.sim_base.specs.Places.{place_of}
@@ -21,7 +21,6 @@ use Rattle.sim_base.specs.declared.trace.Entry.TheVariants.{Plain, Read, Write}
 use Rattle.sim_base.specs.declared.trace.Stop.{Stop}
 use Rattle.cpu_trace.specs.NextMemory.{IsPlainBetween}
 use Rattle.cpu_trace.specs.declared.entries.MemoryEntry.{MemoryEntry}
-use Rattle.statistics.specs.Counts.{one_if}
 use Rattle.statistics.specs.Cores.{unanswered_cycle}
 use Rattle.statistics.specs.declared.cores.CoreStats.{CoreStats}
 use Rattle.statistics.specs.declared.final_state.Credits.{Credits}
@@ -58,12 +57,12 @@ abbrev pub IsIssued : List Entry → ℕ → ℕ → Option MemoryEntry → Type
 IsIssued trace first m None = IsPlainBetween trace first (first + m)
 IsIssued trace first m (Some e) = IsAmong trace first m e
 
--- one credit more
+-- the credits of a core for a channel, with one more of an access
 abbrev pub more_credit : Access → Credits → Credits
 more_credit access.Read c = record c { read = c.read + 1 }
 more_credit access.Write c = record c { write = c.write + 1 }
 
--- one credit less
+-- the credits of a core for a channel, with one less of an access
 abbrev pub less_credit : Access → Credits → Credits
 less_credit access.Read c = record c { read = c.read - 1 }
 less_credit access.Write c = record c { write = c.write - 1 }
@@ -73,17 +72,18 @@ abbrev pub credits_of_kind : Access → Credits → ℕ
 credits_of_kind access.Read c = c.read
 credits_of_kind access.Write c = c.write
 
--- whether the memory entry that issues is a Read, and whether it is a Write
+-- whether the memory entry that issues, if one does, is a Read
 abbrev pub is_read_among : Option MemoryEntry → Bool
 is_read_among None = false
 is_read_among (Some e) = is_read e.entry
 
+-- whether the memory entry that issues, if one does, is a Write
 abbrev pub is_write_among : Option MemoryEntry → Bool
 is_write_among None = false
 is_write_among (Some e) = is_write e.entry
 
--- what statistics count in a cycle, except for replies: it has this core_step, this cause to stop and this memory
--- entry; the numbers are the entries of the trace retired before it, the length of the trace, and the cycle
+-- what statistics count, except for replies, in a cycle with this step of the core, this cause to stop and this memory
+-- entry; the numbers are the entries of the trace retired before the cycle, the length of the trace, and the cycle
 abbrev pub cycle_counts : CoreStep → Stop → Option MemoryEntry → ℕ → ℕ → ℕ → CoreStats
 cycle_counts core_step why memory before len now =
     let reads = one_if (is_read_among memory) in
@@ -121,8 +121,10 @@ requests_issued s core now (Some e) = option_to_list (request_of s core now e.nu
 -- the credits for a channel after an entry has issued
 abbrev pub credit_after_entry : Config → ℕ → Entry → Credits → Credits
 credit_after_entry s channel Plain c = c
-credit_after_entry s channel (Read address) c = if (place_of s address).channel == channel then less_credit access.Read c else c
-credit_after_entry s channel (Write address) c = if (place_of s address).channel == channel then less_credit access.Write c else c
+credit_after_entry s channel (Read address) c =
+    if (place_of s address).channel == channel then less_credit access.Read c else c
+credit_after_entry s channel (Write address) c =
+    if (place_of s address).channel == channel then less_credit access.Write c else c
 
 -- the credits for a channel after a memory entry has issued, if one does
 abbrev pub credit_after : Config → ℕ → Option MemoryEntry → Credits → Credits
@@ -134,7 +136,8 @@ pub record IsWork (s : Config) (core : ℕ) (trace : List Entry) (steps : List C
   pub does : step s core trace steps mail ≡ (core_step, why)
   pub window : issued_before steps + core_step.issued ≤ retired_before steps + core_step.retired + s.window
   pub issues : IsIssued trace (issued_before steps) core_step.issued memory
-  pub credit : IfSome memory (λ e. lacks_credit s core mail (core_messages s core trace steps) (length steps) (Some e.entry) ≡ false)
+  pub credit : IfSome memory
+      (λ e. lacks_credit s core mail (core_messages s core trace steps) (length steps) (Some e.entry) ≡ false)
 
 -- a core that holds these credits for each channel has none for this entry
 abbrev pub lacks_by : Config → (ℕ → Credits) → Entry → Bool

@@ -1,7 +1,7 @@
 -- Reads that wait for their reply.
 --     is_read_at trace entry      the entry of this number is a Read
---     is_answered mail entry      a reply to it is among these messages
---     outstanding_reads trace steps mail      the Reads that were issued and have no reply, in order, each with its cycle
+--     is_answered mail entry      a reply to an entry is among these messages
+--     outstanding_reads trace steps mail      the Reads that were issued and have no reply, in order, with their cycles
 --     IsByNumber outstanding      these Reads are in the order of their numbers, each of which is there once
 use Rattle.std.specs.Prelude.{ℕ, ◌<◌, Bool, false, not, ◌&&◌, List, [], ◌∷◌, slice_get, Option, Some, None, if◌then◌else◌}
 use Rattle.std.specs.List.{AllByRecursion as Each, filter_map, list_any}
@@ -13,7 +13,7 @@ use Rattle.sim_base.specs.declared.message.Message.{Message}
 use Rattle.sim_base.specs.declared.trace.Entry.{Entry}
 use Rattle.core_window.specs.declared.outstanding.OutstandingRead.{OutstandingRead}
 
--- a Read, where there is an entry
+-- an entry is a Read, where there is one
 abbrev pub is_read_in : Option Entry → Bool
 is_read_in (Some entry) = is_read entry
 is_read_in None = false

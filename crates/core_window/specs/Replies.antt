@@ -1,13 +1,13 @@
 -- A reply that comes.
---     MayTakeReply view entry      its counts have room
+--     MayTakeReply view entry      the counts of a core have room for a reply
 --     after_reply view read      what a core keeps after the reply to a Read
---     AnswersRead entry old new      it takes the reply to the Read of a number
+--     TakesReplyOf entry old new      a core takes the reply to the Read of a number
 use Rattle.std.specs.Prelude.{◌≡◌, ℕ, ◌^◌, ◌+◌, ◌-◌, ◌<◌, ◌==◌, not, filter, Some}
 use Rattle.core_window.specs.Counting.{read_of}
 use Rattle.core_window.specs.Views.{CoreView}
 use Rattle.core_window.specs.declared.outstanding.OutstandingRead.{OutstandingRead}
 
--- one reply more can be counted
+-- a core can count one reply more
 pub record MayTakeReply (view : CoreView) (entry : ℕ) : Type 0 where
   pub count : view.stats.replies < 2 ^ 63
   pub sum : view.stats.read_latency < 2 ^ 127
@@ -24,5 +24,6 @@ after_reply view read =
     }
 
 -- a core takes the reply to the Read of a number, if it waits: it is then as after that reply
-abbrev pub AnswersRead : ℕ → CoreView → CoreView → Type 0
-AnswersRead entry old new = (read : OutstandingRead) → read_of entry old.outstanding ≡ Some read → new ≡ after_reply old read
+abbrev pub TakesReplyOf : ℕ → CoreView → CoreView → Type 0
+TakesReplyOf entry old new =
+    (read : OutstandingRead) → read_of entry old.outstanding ≡ Some read → new ≡ after_reply old read

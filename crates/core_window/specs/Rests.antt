@@ -1,7 +1,7 @@
 -- Cycles in which a core does nothing.
---     idle_step      what a core does then
---     Rests s core trace steps mail n      it does nothing in n cycles in which no message comes
---     IsNextAct s core trace steps mail cycle      the first cycle in which it acts, where no message comes
+--     idle_step      what a core does in a cycle in which it does nothing
+--     Rests s core trace steps mail n      a core does nothing in n cycles in which no message comes
+--     IsNextAct s core trace steps mail cycle      the first cycle in which a core acts, where no message comes
 --     MayRest view      a core that stands for some steps and messages
 use Rattle.std.specs.Prelude.{◌≡◌, ℕ, ◌+◌, ◌-◌, ◌≤◌, List, ◌++◌, length, replicate, Option, Some, None}
 use Rattle.sim_base.specs.declared.config.Config.{Config}
@@ -28,14 +28,14 @@ pub record IsFirstAct (s : Config) (core : ℕ) (trace : List Entry) (steps : Li
   pub acts : (step s core trace (core_run s core trace steps mail (cycle - length steps)) mail).0 ≡ idle_step → ⊥
 
 -- a core never acts
-pub record IsAtRest (s : Config) (core : ℕ) (trace : List Entry) (steps : List CoreStep) (mail : List Message) : Type 0 where
+pub record NeverActs (s : Config) (core : ℕ) (trace : List Entry) (steps : List CoreStep) (mail : List Message) : Type 0 where
   pub now : (step s core trace steps mail).0 ≡ idle_step
   pub rests : (n : ℕ) → Rests s core trace steps mail n
 
 -- the first cycle in which a core acts, while no message comes, if there is one
 abbrev pub IsNextAct : Config → ℕ → List Entry → List CoreStep → List Message → Option ℕ → Type 0
 IsNextAct s core trace steps mail (Some cycle) = IsFirstAct s core trace steps mail cycle
-IsNextAct s core trace steps mail None = IsAtRest s core trace steps mail
+IsNextAct s core trace steps mail None = NeverActs s core trace steps mail
 
 -- a core stands for some steps and messages
 pub record MayRest (view : CoreView) : Type 0 where

@@ -1,6 +1,6 @@
 -- Cycles in which a core sends nothing.
---     IsSilentUntil s core trace steps mail until      it sends nothing before a cycle, while no message comes
---     KeepsSilent view until      so does a core in this state, whatever it did and had so far
+--     IsSilentUntil s core trace steps mail until      a core sends nothing before a cycle, while no message comes
+--     KeepsSilent view until      a core in this state sends nothing before a cycle, whatever it did and had so far
 use Rattle.std.specs.Prelude.{◌≡◌, ℕ, ◌+◌, ◌≤◌, List, length}
 use Rattle.sim_base.specs.declared.config.Config.{Config}
 use Rattle.sim_base.specs.History.{core_messages}
@@ -14,7 +14,8 @@ use Rattle.core_window.specs.Views.{CoreView}
 -- A core sends nothing before a cycle, while no message comes. It may retire entries, and issue Plain ones.
 abbrev pub IsSilentUntil : Config → ℕ → List Entry → List CoreStep → List Message → ℕ → Type 0
 IsSilentUntil s core trace steps mail until =
-    (n : ℕ) → length steps + n ≤ until → core_messages s core trace (core_run s core trace steps mail n) ≡ core_messages s core trace steps
+    (n : ℕ) → length steps + n ≤ until
+    → core_messages s core trace (core_run s core trace steps mail n) ≡ core_messages s core trace steps
 
 -- A core in this state sends nothing before a cycle, while no message comes, whatever it did and had so far.
 abbrev pub KeepsSilent : CoreView → ℕ → Type 0

@@ -29,22 +29,24 @@ is_credit_from link access m = (m.link == link) && is_credit access m.payload
 
 -- the credits that a core had for a channel in all: those at first, and those that came
 abbrev pub credits_had : Config → ℕ → List Message → ℕ → Access → ℕ
-credits_had s core mail channel access = credit_cap s access + count_by (is_credit_from (credit_link s core channel) access) mail
+credits_had s core mail channel access =
+    credit_cap s access + count_by (is_credit_from (credit_link s core channel) access) mail
 
 -- the credits that a core spent for a channel
 abbrev pub credits_spent : Config → ℕ → List Entry → List CoreStep → ℕ → Access → ℕ
-credits_spent s core trace steps channel access = count_by (λ m. is_request_for channel access m.payload) (core_messages s core trace steps)
+credits_spent s core trace steps channel access =
+    count_by (λ m. is_request_for channel access m.payload) (core_messages s core trace steps)
 
 -- What holds of the steps of a core, one a cycle, and of the messages that it had, those of the next cycle perhaps
 -- included.
 pub record IsPast (s : Config) (core : ℕ) (trace : List Entry) (steps : List CoreStep) (mail : List Message) : Type 0 where
   -- a trace has at most 2^62 entries
   pub fits : length trace ≤ 2 ^ 62
-  -- it issues in order, up to the end of its trace
+  -- the core issues in order, up to the end of its trace
   pub issued : issued_before steps ≤ length trace
-  -- it retires what it issued
+  -- the core retires what it issued
   pub retired : retired_before steps ≤ issued_before steps
-  -- and keeps no more than its window in between
+  -- the core keeps no more than its window between issue and retirement
   pub window : issued_before steps ≤ retired_before steps + s.window
   -- each message came no later than in the next cycle
   pub arrived : Each (λ m. m.arrival ≤ length steps) mail
@@ -55,25 +57,27 @@ pub record IsPast (s : Config) (core : ℕ) (trace : List Entry) (steps : List C
   -- no more Reads were answered than were issued
   pub answered : length (filter is_reply mail) + length (outstanding_reads trace steps mail) ≤ issued_before steps
   -- no credit was spent that the core did not have
-  pub paid : (channel : ℕ) (access : Access) → credits_spent s core trace steps channel access ≤ credits_had s core mail channel access
+  pub paid : (channel : ℕ) (access : Access)
+      → credits_spent s core trace steps channel access ≤ credits_had s core mail channel access
 
 -- A core did what these steps say, one a cycle, and had these messages in those cycles: it stands at the cycle after
 -- them.
 pub record StandsFor (s : Config) (core : ℕ) (trace : List Entry) (steps : List CoreStep) (mail : List Message) (view : CoreView) : Type 0 where
-  -- it has this configuration, this number and this trace
+  -- the core has this configuration, this number and this trace
   pub config : view.config ≡ s
   pub number : view.core ≡ core
   pub entries : view.trace ≡ trace
-  -- it stands at the cycle after its steps
+  -- the core stands at the cycle after its steps
   pub now : view.now ≡ length steps
-  -- it knows which Reads have no reply, in order, and in which cycle each was issued
+  -- the core knows which Reads have no reply, in order, and in which cycle each was issued
   pub outstanding : view.outstanding ≡ outstanding_reads trace steps mail
-  -- it knows the credits that it holds for each channel
+  -- the core knows the credits that it holds for each channel
   pub channels : length view.credits ≡ s.channels
-  pub credits : (channel : ℕ) → channel < s.channels → slice_get view.credits channel ≡ Some (credits_of s core trace steps mail channel)
-  -- it counted what statistics count, among them the entries that it issued and retired
+  pub credits : (channel : ℕ) → channel < s.channels
+      → slice_get view.credits channel ≡ Some (credits_of s core trace steps mail channel)
+  -- the core counted what statistics count, among them the entries that it issued and retired
   pub stats : view.stats ≡ core_stats s core trace steps mail
   -- all messages came before the cycle where it stands
   pub before : Each (λ m. m.arrival < length steps) mail
-  -- and its steps and messages are such as a core may have
+  -- the steps and messages are such as a core may have
   pub past : IsPast s core trace steps mail

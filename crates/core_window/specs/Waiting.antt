@@ -1,5 +1,5 @@
 -- The Reads that wait for their reply, as a core keeps them.
---     waiting reads      those that wait, in order
+--     waiting reads      the Reads that wait, in order
 --     WaitsFor memory now old new      the Read that issues waits too, if one does
 use Rattle.std.specs.Prelude.{◌≡◌, ℕ, List, drop, Option}
 use Rattle.cpu_trace.specs.declared.entries.MemoryEntry.{MemoryEntry}
@@ -7,7 +7,7 @@ use Rattle.core_window.specs.Counting.{with_reads}
 use Rattle.core_window.specs.declared.outstanding.OutstandingRead.{OutstandingRead}
 use Rattle.core_window.specs.declared.outstanding.OutstandingReads.{OutstandingReads}
 
--- those behind the places that are free
+-- the Reads that wait, in order: they stand behind the places that are free
 abbrev pub waiting : OutstandingReads → List OutstandingRead
 waiting reads = drop reads.free reads.places.items
 

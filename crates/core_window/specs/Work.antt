@@ -1,13 +1,14 @@
 -- What a core does, from one state to another.
---     HeadWaits view, IsFull view      the first entry of its window is not done; its window is full
+--     HeadWaits view, IsFull view      the first entry of a core's window is not done; a core's window is full
 --     StaysBelowFirst core n, StaysBelowSecond core n      n entries more do not go past the memory entries ahead
---     DoesWork view work      what it does in the next cycle
---     IsFlowOf numbers outstanding flow, IsSteadyFlow view flow      in each of some cycles it takes in as many entries as it can
---     AdvancesBy n a before b after, AdvancesTo until a before b after      it goes on by n cycles, or to a cycle
---     GoesOnTo until a before b after      it goes on by some cycles, at most to a cycle
+--     DoesWork view work      what a core does in the next cycle
+--     IsFlowOf numbers outstanding flow      in each cycle of a flow a window takes in as many entries as it can
+--     IsSteadyFlow view flow      in each cycle of a flow a core issues its width of Plain entries
+--     AdvancesBy n a before b after, AdvancesTo until a before b after      a core goes on by n cycles, or to a cycle
+--     GoesOnTo until a before b after      a core goes on by some cycles, at most to a cycle
 --     with_credits view credits      a core with other credits
---     TakesIn old message new      it takes a message
---     ActsNext view next      the first cycle in which it acts
+--     TakesIn old message new      a core takes a message
+--     ActsNext view next      the first cycle in which a core acts
 use Rattle.std.specs.Prelude.{◌≡◌, ℕ, ◌+◌, ◌-◌, ◌<◌, ◌≤◌, List, [], ◌∷◌, ◌++◌, length, Option}
 use Rattle.sim_base.specs.declared.config.Config.{Config}
 use Rattle.sim_base.specs.declared.history.CoreStep.{CoreStep}
@@ -17,7 +18,7 @@ use Rattle.sim_base.specs.declared.trace.Stop.TheVariants as stop
 use Rattle.statistics.specs.declared.final_state.Credits.{Credits}
 use Rattle.core_window.specs.Causes.{first_undone}
 use Rattle.core_window.specs.CoreViews.{view_of}
-use Rattle.core_window.specs.Fit.{IsDue}
+use Rattle.core_window.specs.Fit.{MayCome}
 use Rattle.core_window.specs.Inside.{StandsAt, Advances, GoesOn, Does}
 use Rattle.core_window.specs.Rests.{IsNextAct}
 use Rattle.core_window.specs.Stands.{StandsFor}
@@ -29,19 +30,19 @@ use Rattle.core_window.specs.declared.flow.Flow.{Flow}
 use Rattle.core_window.specs.declared.flow.WindowNumbers.{WindowNumbers}
 use Rattle.core_window.specs.declared.outstanding.OutstandingRead.{OutstandingRead}
 
--- the first entry of its window is not done: no entry retires until a message comes
+-- the first entry of a core's window is not done: no entry retires until a message comes
 abbrev pub HeadWaits : CoreView → Type 0
 HeadWaits v = first_undone v.stats.issued v.outstanding ≤ v.stats.retired
 
--- its window is full: no entry issues until one retires
+-- a core's window is full: no entry issues until one retires
 abbrev pub IsFull : CoreView → Type 0
 IsFull v = v.config.window ≤ v.stats.issued - v.stats.retired
 
--- n entries more than it issued do not go past the first of the memory entries ahead
+-- n entries more than a core issued do not go past the first of the memory entries ahead
 abbrev pub StaysBelowFirst : Core → ℕ → Type 0
 StaysBelowFirst c n = c.stats.issued + n ≤ c.found.first_at
 
--- nor past the second
+-- n entries more than a core issued do not go past the second of the memory entries ahead
 abbrev pub StaysBelowSecond : Core → ℕ → Type 0
 StaysBelowSecond c n = c.stats.issued + n ≤ c.found.second_at
 
@@ -71,7 +72,8 @@ AdvancesBy n a before b after = Advances n (view_of a) before (view_of b) after
 abbrev pub AdvancesTo : ℕ → Core → List Message → Core → List Message → Type 0
 AdvancesTo until a before b after = AdvancesBy (until - a.cycle) a before b after
 
--- it goes on by some cycles, at most up to a cycle
+-- a core goes on by some cycles, at most up to `until`, while no further message comes, and puts what it sends behind
+-- what a list held before
 abbrev pub GoesOnTo : ℕ → Core → List Message → Core → List Message → Type 0
 GoesOnTo until a before b after = GoesOn until (view_of a) before (view_of b) after
 
@@ -79,14 +81,15 @@ GoesOnTo until a before b after = GoesOn until (view_of a) before (view_of b) af
 abbrev pub with_credits : CoreView → List Credits → CoreView
 with_credits view credits = record view { credits = credits }
 
--- a core takes a message: whatever it stood for to which the message may come, it then stands for that with the message
+-- a core takes a message: for each past that the core may have, after which the message may come, it then stands for
+-- that past with the message
 abbrev pub TakesIn : CoreView → Message → CoreView → Type 0
 TakesIn old message new =
     (s : Config) (core : ℕ) (trace : List Entry) (steps : List CoreStep) (mail : List Message)
-    → StandsAt s core trace steps mail old → message.arrival ≡ length steps → IsDue s core trace steps mail message
+    → StandsAt s core trace steps mail old → message.arrival ≡ length steps → MayCome s core trace steps mail message
     → StandsAt s core trace steps (mail ++ message ∷ []) new
 
--- whatever a core stands for, this is the first cycle in which it acts, while no message comes, if there is one
+-- for each past that a core may have, this is the first cycle in which it acts, while no message comes, if there is one
 abbrev pub ActsNext : CoreView → Option ℕ → Type 0
 ActsNext view next =
     (s : Config) (core : ℕ) (trace : List Entry) (steps : List CoreStep) (mail : List Message)

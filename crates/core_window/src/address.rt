@@ -8,7 +8,7 @@ use address_map::digits::Digits;
 use sim_base::place::Place;
 use sim_base::trace::Entry;
 
-/// The place of the address of a Read or a Write; for a Plain entry, which has none, that of address 0.
+/// The place of the address of a Read or a Write; for a Plain entry, which has no address, the place of address 0.
 pub fn address_place(digits: &Digits, entry: Entry) -> Place
     ensures { (s : Config) → IsDigits s digits.now → IsPlaced s entry result }
 {

@@ -12,11 +12,11 @@ ghost use Rattle.core_window.specs.Ahead.{IsPlaced, IsKnown};
 ghost use Rattle.core_window.specs.OneCycle.{lacks_by, IsSeen};
 ghost use Rattle.core_window.specs.Fit.{MayRun, RunsOnto};
 ghost use Rattle.core_window.specs.Stands.{StandsFor};
-ghost use Rattle.core_window.specs.Inside.{IsStanding, IsReceiving, GoesQuietly};
+ghost use Rattle.core_window.specs.Inside.{IsStanding, IsReceiving, GoesOnWithoutSending};
 ghost use Rattle.core_window.specs.Rests.{MayRest, idle_step};
 ghost use Rattle.core_window.specs.Silence.{KeepsSilent};
 ghost use Rattle.core_window.specs.Steady.{steady_view, IsSteady};
-ghost use Rattle.core_window.specs.Replies.{MayTakeReply, AnswersRead};
+ghost use Rattle.core_window.specs.Replies.{MayTakeReply, TakesReplyOf};
 ghost use Rattle.core_window.specs.Outstanding.{IsByNumber};
 ghost use Rattle.core_window.specs.Waiting.{waiting};
 ghost use Rattle.core_window.specs.Latencies.{request_latencies};
@@ -30,7 +30,7 @@ use crate::issue::{
 use crate::issue_effects::{RequestingCore, request_latencies, send, spend, wait_for};
 use crate::outstanding::OutstandingReads;
 use crate::receive::{add_credit_at, channel_of, count_reply};
-use crate::retire::{cause_where_full, is_next_done, is_stuck, retire_count};
+use crate::retire::{cause_where_full, is_next_done, is_stalled, retire_count};
 use address_map::digits::Digits;
 use cpu_trace::entries::MemoryEntry;
 use cpu_trace::trace::Trace;
@@ -56,7 +56,7 @@ pub struct Core {
     /// How long a request travels to each channel, in cycles.
     latencies: Vec<u32>,
     stats: CoreStats,
-    /// The next two memory entries that it issues.
+    /// The next two memory entries that the core issues.
     found: EntriesAhead,
     ghost in_order: { IsDigits config digits },
     ghost travel: { latencies.items ≡ request_latencies config id },
@@ -64,7 +64,7 @@ pub struct Core {
     ghost known: { IsKnown config trace found },
 }
 
-/// What a core does in a cycle, and why it stops; with the memory entry that it issues, if it issues one.
+/// What a core does in a cycle, why it stops, and the memory entry that it issues, if it issues one.
 #[derive(Clone, Copy)]
 pub(crate) struct CycleWork {
     pub core_step: CoreStep,
@@ -76,7 +76,8 @@ pub(crate) struct CycleWork {
 fn is_without_credit(credits: &[Credits], ahead: &EntriesAhead) -> bool
     requires { ahead.now.place.channel < length credits.now }
     ensures { (s : Config) (held : ℕ → Credits) → IsPlaced s ahead.now.entry ahead.now.place
-        → ((channel : ℕ) → channel < s.channels → slice_get credits.now channel ≡ Some (held channel))
+        → ((channel : ℕ) → channel < s.channels
+        → slice_get credits.now channel ≡ Some (held channel))
         → result ≡ lacks_by s held ahead.now.entry }
 {
     match ahead.entry {
@@ -220,7 +221,7 @@ impl Core {
     fn take_reply(&mut self, entry: u64)
         requires room { MayTakeReply (view_of self.old) entry }
         requires order { IsByNumber (waiting self.old.outstanding) }
-        ensures { AnswersRead entry (view_of self.old) (view_of self.new) }
+        ensures { TakesReplyOf entry (view_of self.old) (view_of self.new) }
     {
         if let Some(read) = self.outstanding.take(entry) {
             count_reply(&mut self.stats, self.cycle.saturating_sub(read.issued));
@@ -303,12 +304,12 @@ impl Core {
     }
 
     /// Whether the first entry of its full window waits, so that the core does nothing until a message comes.
-    fn is_stuck(&self) -> bool
+    fn is_stalled(&self) -> bool
         requires { self.now.stats.retired ≤ self.now.stats.issued }
         ensures undone { IsTrue result → HeadWaits (view_of self.now) }
         ensures full { IsTrue result → IsFull (view_of self.now) }
     {
-        is_stuck(
+        is_stalled(
             self.config.window,
             self.outstanding.as_slice(),
             self.stats.issued,
@@ -323,7 +324,7 @@ impl Core {
         requires full { IsFull (view_of self.old) }
         requires order { self.old.cycle < until }
         requires early { until < 2 ^ 62 }
-        ensures goes { GoesQuietly until (view_of self.old) (view_of self.new) }
+        ensures goes { GoesOnWithoutSending until (view_of self.old) (view_of self.new) }
         ensures cycle { self.new.cycle ≡ until }
     {
         let cycle_work = self.idle_work();
@@ -336,7 +337,7 @@ impl Core {
         requires stands { IsStanding (view_of self.old) }
         requires order { self.old.cycle < until }
         requires early { until < 2 ^ 62 }
-        ensures { GoesQuietly until (view_of self.old) (view_of self.new) }
+        ensures { GoesOnWithoutSending until (view_of self.old) (view_of self.new) }
     {
         let flow = self.flow(until - self.cycle);
         if flow.cycles == 0 {
@@ -364,13 +365,13 @@ impl Core {
     }
 
     /// Goes on up to a cycle, if the first entry of its full window waits.
-    fn rest_if_stuck(&mut self, until: Cycle)
+    fn rest_if_stalled(&mut self, until: Cycle)
         requires stands { IsStanding (view_of self.old) }
         requires order { self.old.cycle ≤ until }
         requires early { until < 2 ^ 62 }
-        ensures { GoesQuietly until (view_of self.old) (view_of self.new) }
+        ensures { GoesOnWithoutSending until (view_of self.old) (view_of self.new) }
     {
-        if self.cycle < until && self.is_stuck() {
+        if self.cycle < until && self.is_stalled() {
             self.rest(until);
         }
     }
@@ -386,7 +387,7 @@ impl Core {
     {
         'cycles: while self.cycle < until {
             self.go_on(until, sent)?;
-            self.rest_if_stuck(until);
+            self.rest_if_stalled(until);
         }
         Ok(())
     }
@@ -404,7 +405,7 @@ impl Core {
         if until <= self.cycle {
             return Ok(());
         }
-        if self.is_stuck() {
+        if self.is_stalled() {
             self.rest(until);
             return Ok(());
         }
@@ -441,8 +442,8 @@ impl Core {
     }
 
     /// Runs the cycles from `from`, where the core stands, up to but not including `until`, below 2^62. The messages
-    /// that arrive in them are given; those that the core sends in them are put behind what `sent` holds. The only
-    /// error is out of memory; what the core and the list hold is then not known.
+    /// that arrive in these cycles are given; the messages that the core sends in them are put behind what `sent`
+    /// holds. The only error is out of memory; what the core and the list hold is then not known.
     pub fn run(
         &mut self,
         inbox: &[Message],
@@ -498,8 +499,8 @@ impl Core {
         self.next_work(from)
     }
 
-    /// A number of cycles that surely pass before the core issues its next Read or Write: in each it issues at most its
-    /// width of entries.
+    /// A number of cycles that surely pass before the core issues its next Read or Write: in each cycle it issues at
+    /// most its width of entries.
     fn plain_cycles(&self) -> u64
         ensures { HasMemoryAhead self.now
             → StaysBelowFirst self.now (result * self.now.config.width) }

@@ -37,7 +37,7 @@ pub(crate) fn cycles_within(entries: u64, width: u16, most: u64) -> u64
 }
 
 /// The cycles, at most `most` of them, in which the core issues its width of Plain entries and does the same in each.
-/// Where it can't do so in the next cycle, there are none.
+/// Where the core cannot do so in the next cycle, there are none.
 pub fn flow_of(numbers: &WindowNumbers, outstanding: &[OutstandingRead], most: u64) -> Flow
     requires positive { 0 < numbers.now.width }
     requires order { numbers.now.retired ≤ numbers.now.issued }

@@ -16,7 +16,7 @@ use sim_base::config::Config;
 use sim_base::place::Place;
 use sim_base::trace::{Entry, Stop};
 
-/// The number of the next Read or Write from a number on, before which `before` of them stand, and the entry itself;
+/// The number of the next Read or Write from `number` on, before which `before` of them stand, and the entry itself;
 /// the length of the trace, where there is none.
 fn next_or_end(trace: &Trace, from: u64, before: u64) -> MemoryEntry
     requires { from ≤ length trace.now }
@@ -86,7 +86,8 @@ pub fn ahead_of(digits: &Digits, trace: &Trace, first: MemoryEntry, before: u64)
 pub fn go_to_second(digits: &Digits, trace: &Trace, ahead: &mut EntriesAhead, before: u64)
     requires { ahead.old.second_at ≤ length trace.now }
     ensures seen { (from : ℕ) → IsNextOrEnd trace.now from ahead.old.second_at
-        → HasEntry trace.now ahead.old.second_at ahead.old.second → IsSeenFrom trace.now from ahead.new }
+        → HasEntry trace.now ahead.old.second_at ahead.old.second
+        → IsSeenFrom trace.now from ahead.new }
     ensures known { IsKnownBy digits.now trace.now ahead.new }
 {
     let next = entry_behind(trace, ahead.second_at, before);
@@ -220,7 +221,8 @@ pub fn issue_of(
 pub fn entry_issued(number: u64, ahead: &EntriesAhead, count: u16) -> Option<MemoryEntry>
     requires { number ≤ 2 ^ 62 }
     ensures issued { (trace : List Entry) → IsSeenFrom trace number ahead.now
-        → number + count ≤ ahead.now.second_at → number ≤ length trace → IsIssued trace number count result }
+        → number + count ≤ ahead.now.second_at → number ≤ length trace
+        → IsIssued trace number count result }
     ensures at { IfSome result (λ e. e.number ≡ ahead.now.first_at) }
     ensures entry { IfSome result (λ e. e.entry ≡ ahead.now.entry) }
 {

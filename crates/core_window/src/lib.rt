@@ -8,5 +8,5 @@ mod flow;
 mod issue;
 mod issue_effects;
 pub mod outstanding;
-mod receive;
+pub mod receive;
 mod retire;

@@ -59,7 +59,7 @@ impl OutstandingReads {
         })
     }
 
-    /// Those that wait.
+    /// The Reads that wait for their replies.
     #[inline(always)]
     pub fn as_slice(&self) -> &[OutstandingRead]
         ensures { result.now ≡ waiting self.now }
@@ -79,7 +79,7 @@ impl OutstandingReads {
         self.free = 0;
     }
 
-    /// One Read more waits, behind the others.
+    /// Adds a Read that waits for its reply, behind the others.
     pub fn push(&mut self, read: OutstandingRead) -> Result<(), AllocError>
         ensures { OnOk result (waiting self.new ≡ waiting self.old ++ read ∷ []) }
     {

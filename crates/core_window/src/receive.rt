@@ -10,13 +10,14 @@ use statistics::cores::CoreStats;
 use statistics::final_state::Credits;
 
 /// The channel of a link.
+#[inline(always)]
 pub fn channel_of(config: &Config, link: LinkId) -> u64
     ensures { result ≡ link / 3 % config.now.channels }
 {
     (link / 3) & u64::from(config.channels - 1)
 }
 
-/// One credit more.
+/// Adds a credit for an access.
 pub fn add_credit(credits: &mut Credits, access: Access)
     ensures { HasRoom access credits.old → credits.new ≡ more_credit access credits.old }
 {
@@ -26,7 +27,7 @@ pub fn add_credit(credits: &mut Credits, access: Access)
     }
 }
 
-/// One credit less.
+/// Takes a credit for an access.
 pub fn take_credit(credits: &mut Credits, access: Access)
     ensures { credits.new ≡ less_credit access credits.old }
 {
@@ -36,7 +37,7 @@ pub fn take_credit(credits: &mut Credits, access: Access)
     }
 }
 
-/// One credit more for a channel.
+/// Adds a credit for an access at a channel.
 pub fn add_credit_at(credits: &mut [Credits], channel: usize, access: Access)
     requires { channel < length credits.old }
     ensures { IsCreditedAt channel access credits.old credits.new }

@@ -6,7 +6,7 @@ ghost use Rattle.core_window.specs.Causes.{first_undone};
 use crate::outstanding::OutstandingRead;
 use sim_base::trace::Stop;
 
-/// The first entry that isn't done, where `issued` entries were issued and these Reads wait.
+/// The first entry that is not done, where `issued` entries were issued and these Reads wait.
 fn first_undone(outstanding: &[OutstandingRead], issued: u64) -> u64
     ensures { result ≡ first_undone issued outstanding.now }
 {
@@ -16,7 +16,7 @@ fn first_undone(outstanding: &[OutstandingRead], issued: u64) -> u64
     }
 }
 
-/// How many entries retire, where `retired` entries have retired already: up to the first that isn't done, and no more
+/// How many entries retire, where `retired` entries have retired already: up to the first that is not done, and no more
 /// than the width.
 pub fn retire_count(width: u16, outstanding: &[OutstandingRead], issued: u64, retired: u64) -> u16
     ensures { result ≡ min width (first_undone issued outstanding.now - retired) }
@@ -33,7 +33,7 @@ pub fn is_next_done(outstanding: &[OutstandingRead], issued: u64, retired: u64) 
 }
 
 /// Whether the first entry of a full window waits, so that no entry retires and none issues.
-pub fn is_stuck(window: u32, outstanding: &[OutstandingRead], issued: u64, retired: u64) -> bool
+pub fn is_stalled(window: u32, outstanding: &[OutstandingRead], issued: u64, retired: u64) -> bool
     requires { retired ≤ issued }
     ensures undone { IsTrue result → first_undone issued outstanding.now ≤ retired }
     ensures full { IsTrue result → window ≤ issued - retired }

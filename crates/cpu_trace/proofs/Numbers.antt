@@ -8,7 +8,7 @@ use Rattle.std.specs.Option.{MatchOption, IfSome, IfNone, option_copied}
 use Rattle.std.specs.List.Sorted.{IsPartitionedBy, IsPartitionPoint}
 use Rattle.sim_base.specs.declared.trace.Entry.TheVariants.{Plain}
 use Rattle.sim_base.specs.Windows.{is_memory}
-use Rattle.sim_base.proofs.Lists.{slice_get-drop}
+use Rattle.sim_base.proofs.Lists.{slice_get-drop, drop-at_none}
 use Rattle.cpu_trace.specs.declared.entries.MemoryEntry.{MemoryEntry}
 use Rattle.cpu_trace.specs.Entries.{entries_after, IsAscending}
 use Rattle.cpu_trace.proofs.Growth.{length-entries_after}
@@ -86,12 +86,6 @@ pub drop-at_some : {X : Type 0} (xs : List X) (k : ℕ) (x : X) → slice_get xs
 drop-at_some xs k x e =
     let within : k < length xs = slice_get_within xs k x e in
     drop_more xs k x within ∙ ap (λ y. y ∷ drop (k + 1) xs) (get_or_from_slice_get xs k x x e)
-
-pub drop-at_none : {X : Type 0} (xs : List X) (k : ℕ) → slice_get xs k ≡ None → drop k xs ≡ []
-drop-at_none [] zero e = refl
-drop-at_none [] (suc k) e = refl
-drop-at_none (x ∷ xs) zero e = cc
-drop-at_none (x ∷ xs) (suc k) e = drop-at_none xs k e
 
 -- what stands at a place of a list, of which the rest is known from an earlier place on
 pub slice_get-from : {X : Type 0} (xs rest : List X) (i j : ℕ) → drop i xs ≡ rest → i ≤ j → slice_get xs j ≡ slice_get rest (j - i)

@@ -10,9 +10,11 @@ use Rattle.cpu_trace.specs.declared.entries.MemoryEntry.{MemoryEntry}
 -- the entries from this number on, up to a length: each memory entry stands at its number, behind a run of Plain ones
 unfoldable pub entries_after : ℕ → List MemoryEntry → ℕ → List Entry
 entries_after from [] len = replicate (len - from) Plain
-entries_after from (m ∷ memory) len = replicate (m.number - from) Plain ++ m.entry ∷ entries_after (m.number + 1) memory len
+entries_after from (m ∷ memory) len =
+    replicate (m.number - from) Plain ++ m.entry ∷ entries_after (m.number + 1) memory len
 
 -- each is a Read or a Write, and their numbers rise, from this one on and below a length
 unfoldable pub IsAscending : ℕ → List MemoryEntry → ℕ → Type 0
 IsAscending from [] len = from ≤ len
-IsAscending from (m ∷ memory) len = (from ≤ m.number) × (is_memory m.entry ≡ true) × IsAscending (m.number + 1) memory len
+IsAscending from (m ∷ memory) len =
+    (from ≤ m.number) × (is_memory m.entry ≡ true) × IsAscending (m.number + 1) memory len

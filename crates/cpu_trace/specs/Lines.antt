@@ -31,4 +31,6 @@ tokens_with plain read (Some write) = plain ∷ read ∷ write ∷ []
 
 -- Numbers are read of tokens whose line has their entries; if none are, the line is refused for the same cause.
 abbrev pub ReadsTokens : List (List ℕ) → Result Line LineCause → Type 0
-ReadsTokens tokens result = MatchResult result (λ line. entries_of_tokens tokens ≡ Ok (entries_of line)) (λ cause. entries_of_tokens tokens ≡ Err cause)
+ReadsTokens tokens result =
+    MatchResult result (λ line. entries_of_tokens tokens ≡ Ok (entries_of line))
+    (λ cause. entries_of_tokens tokens ≡ Err cause)

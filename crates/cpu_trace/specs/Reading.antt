@@ -37,12 +37,14 @@ kept_of lines = entries_of_lines 1 lines >>= λ entries. Ok (kept entries)
 -- what is kept from a line on, after what was kept so far
 unfoldable pub kept_from : Option (List Entry) → ℕ → List (List ℕ) → Result (Option (List Entry)) BadLine
 kept_from so_far number [] = Ok so_far
-kept_from so_far number (line ∷ lines) = in_line number (line_entries line) >>= λ entries. kept_from (appended so_far entries) (number + 1) lines
+kept_from so_far number (line ∷ lines) =
+    in_line number (line_entries line) >>= λ entries. kept_from (appended so_far entries) (number + 1) lines
 
 -- The first `count` lines of a text are read, and `rest` is left of it: what is kept before them and after them.
 pub record IsReadUpTo (text : List ℕ) (before : Option (List Entry)) (count : ℕ) (rest : List ℕ) (after : Option (List Entry)) : Type 0 where
   pub counted : length (lines_of text) ≡ count + length (lines_of rest)
-  pub is_kept : (number : ℕ) → kept_from before number (lines_of text) ≡ kept_from after (number + count) (lines_of rest)
+  pub is_kept : (number : ℕ)
+      → kept_from before number (lines_of text) ≡ kept_from after (number + count) (lines_of rest)
   pub shorter : count + length rest ≤ length text
 
 -- what is read of lines: how many they are, and what is kept of their entries

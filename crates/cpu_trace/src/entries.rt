@@ -82,7 +82,7 @@ impl Entries {
         Ok(())
     }
 
-    // Adds a run of Plain entries.
+    /// Adds a run of Plain entries.
     fn add_plain(&mut self, plain: u64)
         requires { length self.old + plain ≤ 2 ^ 62 }
         ensures { self.new ≡ self.old ++ replicate plain Entry.Plain }

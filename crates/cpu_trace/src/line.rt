@@ -17,14 +17,14 @@ pub(crate) struct Line {
     pub write: Option<u64>,
 }
 
-// Whether a byte stands between tokens.
+/// Whether a byte stands between tokens.
 fn is_separator(byte: u8) -> bool
     ensures { result ≡ is_separator byte }
 {
     matches!(byte, b' ' | b'\t' | b'\r')
 }
 
-// How many separators a line begins with.
+/// How many separators a line begins with.
 fn separators(line: &[u8]) -> usize
     ensures value { result ≡ prefix_len is_separator line.now }
     ensures bound { result ≤ length line.now }
@@ -32,7 +32,7 @@ fn separators(line: &[u8]) -> usize
     line.iter().take_while(|byte| is_separator(**byte)).count()
 }
 
-// The length of the token that a line begins with.
+/// The length of the token that a line begins with.
 fn token_len(line: &[u8]) -> usize
     ensures value { result ≡ prefix_len (λ byte. not (is_separator byte)) line.now }
     ensures bound { result ≤ length line.now }
@@ -40,7 +40,7 @@ fn token_len(line: &[u8]) -> usize
     line.iter().take_while(|byte| !is_separator(**byte)).count()
 }
 
-// A line without the separators that it begins with.
+/// A line without the separators that it begins with.
 fn skip_separators(line: &[u8]) -> &[u8]
     ensures tokens { tokens_of result.now ≡ tokens_of line.now }
     ensures first { 0 < length result.now → is_separator (slice_index result.now 0) ≡ false }
@@ -48,7 +48,7 @@ fn skip_separators(line: &[u8]) -> &[u8]
     &line[separators(line)..]
 }
 
-// The first token of a line, and what follows it.
+/// The first token of a line, and what follows it.
 fn split_token(line: &[u8]) -> Option<(&[u8], &[u8])>
     ensures { MatchOption result (tokens_of line.now ≡ [])
         (λ parts. tokens_of line.now ≡ parts.0.now ∷ tokens_of parts.1.now) }
@@ -60,7 +60,7 @@ fn split_token(line: &[u8]) -> Option<(&[u8], &[u8])>
     Some(rest.split_at(token_len(rest)))
 }
 
-// The numbers of a line with these tokens.
+/// The numbers of a line with these tokens.
 #[tactic(auto, unfolding(sim_base::specs::TraceText::entries_of_tokens))]
 fn read_tokens(plain: &[u8], read: &[u8], write: Option<&[u8]>) -> Result<Line, LineCause>
     ensures { ReadsTokens (tokens_with plain.now read.now (option_copied write.entry)) result }

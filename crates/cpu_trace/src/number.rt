@@ -6,7 +6,7 @@ ghost use Rattle.cpu_trace.specs.Numerals.{fitting};
 
 use sim_base::fault::LineCause;
 
-// The number with one more digit at its end, where it is at most 2^64 - 1.
+/// The number with one more digit at its end, where it is at most 2^64 - 1.
 #[tactic(auto, unfolding(crate::specs::Numerals::fitting))]
 #[inline(always)]
 fn with_digit(number: Option<u64>, radix: u32, digit: u32) -> Option<u64>
@@ -17,7 +17,7 @@ fn with_digit(number: Option<u64>, radix: u32, digit: u32) -> Option<u64>
         .checked_add(u64::from(digit))
 }
 
-// The number that digits write. It is inlined, so that each radix has a loop of its own.
+/// The number that digits write. It is inlined, so that each radix has a loop of its own.
 #[inline(always)]
 fn read_numeral(radix: u32, digits: &[u8]) -> Result<u64, LineCause>
     requires lower { 2 ≤ radix }
@@ -37,7 +37,7 @@ fn read_numeral(radix: u32, digits: &[u8]) -> Result<u64, LineCause>
     number.ok_or(LineCause::TooLarge)
 }
 
-// Whether a token begins with `0x` or `0X`.
+/// Whether a token begins with `0x` or `0X`.
 #[tactic(auto, unfolding(sim_base::specs::TraceText::is_hexadecimal))]
 fn is_hexadecimal(token: &[u8]) -> bool
     ensures value { result ≡ is_hexadecimal token.now }

@@ -19,7 +19,7 @@ pub(crate) fn line_len(text: &[u8]) -> usize
     text.iter().take_while(|byte| **byte != b'\n').count()
 }
 
-// The first line of a text, and what follows its line feed, if it has one.
+/// The first line of a text, and what follows its line feed, if it has one.
 fn split_line(text: &[u8]) -> (&[u8], Option<&[u8]>)
     ensures lines { MatchOption result.1 (lines_of text.now ≡ result.0.now ∷ [])
         (λ behind. lines_of text.now ≡ result.0.now ∷ lines_of behind.now) }
@@ -33,8 +33,8 @@ fn split_line(text: &[u8]) -> (&[u8], Option<&[u8]>)
     }
 }
 
-// Adds the entries of the lines at the start of a text, up to the first that does not have the usual form or that there
-// is no room for. Gives the number of these lines, and what follows them.
+/// Adds the entries of the lines at the start of a text, up to the first that does not have the usual form or that
+/// there is no room for. Gives the number of these lines, and what follows them.
 fn add_usual_lines<'a>(entries: &mut Entries, text: &'a [u8]) -> Result<(u64, &'a [u8]), AllocError>
     ensures { IfOk result (λ read. IsReadUpTo text.now (Some entries.old) read.0 read.1.now
         (Some entries.new)) }
@@ -52,7 +52,8 @@ fn add_usual_lines<'a>(entries: &mut Entries, text: &'a [u8]) -> Result<(u64, &'
     Ok((lines, rest))
 }
 
-// Adds the entries of usual lines as `add_usual_lines` does, or reads nothing if the trace so far was too long to keep.
+/// Adds the entries of usual lines as `add_usual_lines` does, or reads nothing if the trace so far was too long to
+/// keep.
 fn keep_usual_lines<'a>(
     kept: &mut Option<Entries>,
     text: &'a [u8],
@@ -65,8 +66,8 @@ fn keep_usual_lines<'a>(
     }
 }
 
-// In most traces a Read or a Write entry takes at least this many bytes of the text. Where it takes fewer, the room
-// grows.
+/// In most traces a Read or a Write entry takes at least this many bytes of the text. Where it takes fewer, the room
+/// grows.
 const BYTES_OF_ENTRY: usize = 10;
 
 /// Reads the lines of a piece, one after another.

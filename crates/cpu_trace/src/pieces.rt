@@ -12,7 +12,7 @@ use rayon::prelude::*;
 use std::alloc::{AllocError, Global};
 use std::thread::Threads;
 
-// A piece of at least `size` bytes at the start of a text, and what follows the line feed at its end.
+/// A piece of at least `size` bytes at the start of a text, and what follows the line feed at its end.
 fn first_piece(text: &[u8], size: usize) -> Option<(&[u8], &[u8])>
     ensures { IfSome result (λ parts. text.now ≡ parts.0.now ++ 10 ∷ parts.1.now) }
 {
@@ -26,7 +26,7 @@ fn first_piece(text: &[u8], size: usize) -> Option<(&[u8], &[u8])>
     Some((piece, &behind[1..]))
 }
 
-// Cuts a text at line feeds into pieces of at least `size` bytes, except for the last.
+/// Cuts a text at line feeds into pieces of at least `size` bytes, except for the last.
 fn cut(alloc: Global, text: &[u8], size: usize) -> Result<Vec<&[u8]>, AllocError>
     ensures { IfOk result (λ pieces. lines_of text.now ≡ lines_of_pieces pieces.items) }
 {
@@ -40,7 +40,7 @@ fn cut(alloc: Global, text: &[u8], size: usize) -> Result<Vec<&[u8]>, AllocError
     Ok(pieces)
 }
 
-// What each piece has, read in as many threads as there are processors.
+/// What each piece has, read in as many threads as there are processors.
 fn read_pieces<R: Threads + Sync>(
     rt: &R,
     alloc: Global,

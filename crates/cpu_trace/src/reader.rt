@@ -14,10 +14,10 @@ use sim_base::message::CoreId;
 use std::alloc::Global;
 use std::thread::Threads;
 
-// The least number of bytes in a piece of a text, if it is not the last.
+/// The least number of bytes in a piece of a text, if it is not the last.
 const PIECE_SIZE: usize = 1 << 18;
 
-// Reads the lines of a text, in pieces if it has more than `size` bytes.
+/// Reads the lines of a text, in pieces if it has more than `size` bytes.
 fn read_text<R: Threads + Sync>(
     rt: &R,
     alloc: Global,

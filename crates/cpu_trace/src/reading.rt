@@ -106,7 +106,7 @@ pub(crate) fn extended(
     Ok(Some(entries))
 }
 
-// What was kept of lines, with what was kept of those after them.
+/// What was kept of lines, with what was kept of those after them.
 fn joined(so_far: Option<Entries>, more: &Option<Entries>) -> Result<Option<Entries>, AllocError>
     ensures { IfOk result (λ all. all ≡ joined so_far more.now) }
 {

@@ -7,7 +7,7 @@ ghost use Rattle.cpu_trace.specs.Usual.{BeginsWithDigits, BeginsWithToken, Begin
 
 use crate::line::Line;
 
-// The value of each byte as a digit: from 0 for `0` to 35 for `Z` and `z`, and 36 where it is none.
+/// The value of each byte as a digit: from 0 for `0` to 35 for `Z` and `z`, and 36 where it is none.
 static DIGITS: [u8; 256] = [
     36, 36, 36, 36, 36, 36, 36, 36, 36, 36, 36, 36, 36, 36, 36, 36, 36, 36, 36, 36, 36, 36, 36, 36,
     36, 36, 36, 36, 36, 36, 36, 36, 36, 36, 36, 36, 36, 36, 36, 36, 36, 36, 36, 36, 36, 36, 36, 36,
@@ -22,7 +22,7 @@ static DIGITS: [u8; 256] = [
     36, 36, 36, 36, 36, 36, 36, 36, 36, 36, 36, 36, 36, 36,
 ];
 
-// The value of a byte as a digit of a radix, if it is one.
+/// The value of a byte as a digit of a radix, if it is one.
 #[inline(always)]
 fn digit_of(radix: u64, byte: u8) -> Option<u64>
     ensures { IfSome result (λ digit. (digit_value byte < radix) × (digit ≡ digit_value byte)) }
@@ -31,8 +31,8 @@ fn digit_of(radix: u64, byte: u8) -> Option<u64>
     if digit < radix { Some(digit) } else { None }
 }
 
-// The number that the digits among the first `end` bytes of a text write, up to the first that is none, and what
-// follows them; none if no digit is read. It is inlined, so that each radix has a loop of its own.
+/// The number that the digits among the first `end` bytes of a text write, up to the first that is none, and what
+/// follows them; none if no digit is read. It is inlined, so that each radix has a loop of its own.
 #[inline(always)]
 fn split_within(radix: u64, end: usize, text: &[u8]) -> Option<(u64, &[u8])>
     requires lower { 2 ≤ radix }
@@ -56,9 +56,9 @@ fn split_within(radix: u64, end: usize, text: &[u8]) -> Option<(u64, &[u8])>
     Some((number, &text[len..]))
 }
 
-// The number that the digits at the start of a text write, of which no more than `most` are read, and what follows
-// them; none if no digit is read. Where the text is as long as that, how often the loop runs at most is known as it is
-// compiled.
+/// The number that the digits at the start of a text write, of which no more than `most` are read, and what follows
+/// them; none if no digit is read. Where the text is as long as that, how often the loop runs at most is known as it is
+/// compiled.
 #[inline(always)]
 fn split_digits(radix: u64, most: usize, text: &[u8]) -> Option<(u64, &[u8])>
     requires lower { 2 ≤ radix }
@@ -72,7 +72,7 @@ fn split_digits(radix: u64, most: usize, text: &[u8]) -> Option<(u64, &[u8])>
     split_within(radix, text.len(), text)
 }
 
-// What follows this byte at the start of a text.
+/// What follows this byte at the start of a text.
 #[inline(always)]
 fn behind(byte: u8, text: &[u8]) -> Option<&[u8]>
     ensures { IfSome result (λ rest. text.now ≡ byte ∷ rest.now) }
@@ -81,7 +81,7 @@ fn behind(byte: u8, text: &[u8]) -> Option<&[u8]>
     if *first == byte { Some(rest) } else { None }
 }
 
-// What follows `0x` at the start of a text.
+/// What follows `0x` at the start of a text.
 #[inline(always)]
 fn behind_mark(text: &[u8]) -> Option<&[u8]>
     ensures { IfSome result (λ rest. text.now ≡ 48 ∷ 120 ∷ rest.now) }
@@ -89,7 +89,7 @@ fn behind_mark(text: &[u8]) -> Option<&[u8]>
     behind(b'x', behind(b'0', text)?)
 }
 
-// The number that the token at the start of a text writes, and what follows it.
+/// The number that the token at the start of a text writes, and what follows it.
 #[inline(always)]
 fn split_number(text: &[u8]) -> Option<(u64, &[u8])>
     ensures { IfSome result (λ parts. BeginsWithToken text.now parts.0 parts.1.now) }

@@ -19,7 +19,7 @@ use mathlib.Core.Option.{some}
 use lib.ListN.{get_elem?}
 use Rattle.atomic_table.specs.Seated.{TableId}
 use Rattle.crossbeam_queue.specs.Passes.{Pass}
-use Rattle.crew.specs.declared.rule.View.{View}
+use Rattle.crew.specs.declared.rule.PassView.{PassView}
 
 -- h of each item, added up
 abbrev pub weigh : {X : Type 0} → (X → ℕ) → List X → ℕ
@@ -28,42 +28,42 @@ weigh h (x ∷ xs) = h x + weigh h xs
 
 module _ {X : Type 0} where
   -- what a pass knows
-  abbrev pub view_of : ℕ → List X → List X → View X
+  abbrev pub view_of : ℕ → List X → List X → PassView X
   view_of parts put taken = record { parts = parts; put = put; taken = taken }
 
   -- what a pass knows that has nothing
-  abbrev pub spent : View X
+  abbrev pub spent : PassView X
   spent = view_of 0 [] []
 
   -- One pass may put. What was put is what was taken and what the queue holds, each once, however the tasks are
   -- weighed. The other passes have put nothing.
-  abbrev pub Kept : List X → List (View X) → Type 0
+  abbrev pub Kept : List X → List (PassView X) → Type 0
   Kept items views =
       (weigh (λ v. v.parts) views ≡ 1)
       × ((h : X → ℕ) → weigh (λ v. weigh h v.put) views ≡ weigh (λ v. weigh h v.taken) views + weigh h items)
-      × ((i : ℕ) (v : View X) → get_elem? views i ≡ some v → v.parts ≡ 0 → v.put ≡ [])
+      × ((i : ℕ) (v : PassView X) → get_elem? views i ≡ some v → v.parts ≡ 0 → v.put ≡ [])
 
   -- At one moment the queue held these, in this order, and the rule held of them and of what all passes knew, this one
   -- among them.
-  abbrev pub Moment : List X → View X → Type 0
-  Moment items v = (views : List (View X)) × (i : ℕ) × (get_elem? views i ≡ some v) × Kept items views
+  abbrev pub Moment : List X → PassView X → Type 0
+  Moment items v = (views : List (PassView X)) × (i : ℕ) × (get_elem? views i ≡ some v) × Kept items views
 
   -- at one moment this was in front, and the rule held
-  abbrev pub WasInFront : X → View X → Type 0
+  abbrev pub WasInFront : X → PassView X → Type 0
   WasInFront x v = (rest : List X) × Moment (x ∷ rest) v
 
   -- No more was taken than was put. If as many were, they weigh the same, however the tasks are weighed.
-  abbrev pub IsSettled : View X → Type 0
+  abbrev pub IsSettled : PassView X → Type 0
   IsSettled v =
       (length v.taken ≤ length v.put)
       × (length v.put ≤ length v.taken → (h : X → ℕ) → weigh h v.taken ≡ weigh h v.put)
 
   -- what a pass knows that has put nothing and may put nothing
-  abbrev pub OnlyTakes : View X → Type 0
+  abbrev pub OnlyTakes : PassView X → Type 0
   OnlyTakes v = v ≡ view_of 0 [] v.taken
 
   -- it is a pass of the queue of the board of this name, and no slot of the queue is out with it
-  abbrev pub IsPassAt : TableId → Pass X (View X) → Type 0
+  abbrev pub IsPassAt : TableId → Pass X (PassView X) → Type 0
   IsPassAt name pass = (pass.table_id ≡ name) × (pass.me.1 ≡ [])
 
 -- what was put since the board was cleared last, and what was returned

@@ -76,7 +76,7 @@ impl<'a, T: Drop, D: DoneOf<T> + Drop, W: Work<T, D>, B: BoardName, R: Wait> Tas
     }
 }
 
-// Runs tasks one after the other, in the caller's thread.
+/// Runs tasks one after the other, in the caller's thread.
 fn run_all<T: Drop, D: DoneOf<T> + Drop, W: Work<T, D>>(
     alloc: Global,
     work: &W,
@@ -91,7 +91,7 @@ fn run_all<T: Drop, D: DoneOf<T> + Drop, W: Work<T, D>>(
     Ok(results)
 }
 
-// Puts all tasks on the board.
+/// Puts all tasks on the board.
 fn put_all<T: Drop, B: BoardName, R: Wait>(
     rt: &R,
     board: &Board<T, B>,
@@ -109,7 +109,7 @@ fn put_all<T: Drop, B: BoardName, R: Wait>(
     }
 }
 
-// Adds what was returned to the results.
+/// Adds what was returned to the results.
 fn add_returned<T: Drop, D: DoneOf<T> + Drop, B: BoardName>(
     board: &Board<T, B>,
     seat: &mut PutSeat<T, B>,
@@ -127,7 +127,7 @@ fn add_returned<T: Drop, D: DoneOf<T> + Drop, B: BoardName>(
     results.append(&mut more)
 }
 
-// Adds what a thread returned to the results, or waits until one returns something.
+/// Adds what a thread returned to the results, or waits until one returns something.
 fn receive<T: Drop, D: DoneOf<T> + Drop, W: Work<T, D>, B: BoardName, R: Wait>(
     shared: &Shared<'_, T, D, W, B, R>,
     seat: &mut PutSeat<T, B>,
@@ -145,7 +145,7 @@ fn receive<T: Drop, D: DoneOf<T> + Drop, W: Work<T, D>, B: BoardName, R: Wait>(
     Ok(())
 }
 
-// Adds what threads return to the results, until all that was put was returned.
+/// Adds what threads return to the results, until all that was put was returned.
 fn gather<T: Drop, D: DoneOf<T> + Drop, W: Work<T, D>, B: BoardName, R: Wait>(
     shared: &Shared<'_, T, D, W, B, R>,
     seat: &mut PutSeat<T, B>,
@@ -166,7 +166,7 @@ fn gather<T: Drop, D: DoneOf<T> + Drop, W: Work<T, D>, B: BoardName, R: Wait>(
     unreachable!()
 }
 
-// What comes of tasks that the threads and the caller claim from the board.
+/// What comes of tasks that the threads and the caller claim from the board.
 fn run_phase<T: Drop, D: DoneOf<T> + Drop, W: Work<T, D>, B: BoardName, R: Wait>(
     shared: &Shared<'_, T, D, W, B, R>,
     put: &mut PutSeat<T, B>,

@@ -11,7 +11,7 @@ use std::marker::Brand;
 
 /// What a pass knows: whether it may put (1 or 0), what it has put since the board was cleared last, and what it has
 /// taken and not returned. No value of this type is ever made.
-pub struct View<T> {
+pub struct PassView<T> {
     pub parts: u64,
     pub put: LinkedList<T>,
     pub taken: LinkedList<T>,
@@ -21,12 +21,12 @@ pub struct View<T> {
 pub struct BoardRule;
 
 /// The queue of a board.
-pub type TaskQueue<T> = RuledArrayQueue<T, View<T>, BoardRule>;
+pub type TaskQueue<T> = RuledArrayQueue<T, PassView<T>, BoardRule>;
 
 /// What a seat has of the queue.
-pub type BoardPass<T> = Pass<T, View<T>>;
+pub type BoardPass<T> = Pass<T, PassView<T>>;
 
-impl<T> Protocol<T, View<T>> for BoardRule {
+impl<T> Protocol<T, PassView<T>> for BoardRule {
     ghost use Rattle.crew.specs.Rule.{Kept, view_of};
 
     ghost holds = { Kept };
@@ -37,36 +37,36 @@ impl<T> Protocol<T, View<T>> for BoardRule {
 /// The next task is put.
 pub struct Puts;
 
-impl<T> Outcome<T, View<T>> for Puts {
+impl<T> Outcome<T, PassView<T>> for Puts {
     ghost then = { λ v x w. w ≡ view_of v.parts (v.put ++ x ∷ []) v.taken };
 }
 
-impl<T> Lesson<T, View<T>> for Puts {
+impl<T> Lesson<T, PassView<T>> for Puts {
     ghost fact = { λ v items. length items ≤ length v.put };
 }
 
 /// The task in front is taken.
 pub struct Takes;
 
-impl<T> Outcome<T, View<T>> for Takes {
+impl<T> Outcome<T, PassView<T>> for Takes {
     ghost then = { λ v x w. (w ≡ view_of v.parts v.put (v.taken ++ x ∷ [])) × WasInFront x v };
 }
 
-impl<T> Lesson<T, View<T>> for Takes {
+impl<T> Lesson<T, PassView<T>> for Takes {
     ghost fact = { λ v items. Moment items v };
 }
 
 /// No more was returned than was put; where it is equally many, it is exactly what was put.
 pub struct Settles;
 
-impl<T> Lesson<T, View<T>> for Settles {
+impl<T> Lesson<T, PassView<T>> for Settles {
     ghost fact = { λ v items. IsSettled v };
 }
 
 /// A pass that has nothing is made.
 pub struct EmptyPass;
 
-impl<T> Split<View<T>> for EmptyPass {
+impl<T> Split<PassView<T>> for EmptyPass {
     ghost left = { λ v. v };
 
     ghost right = { λ v. spent };
@@ -75,7 +75,7 @@ impl<T> Split<View<T>> for EmptyPass {
 /// What a pass took goes to a pass of its own, to be returned.
 pub struct SplitTaken;
 
-impl<T> Split<View<T>> for SplitTaken {
+impl<T> Split<PassView<T>> for SplitTaken {
     ghost left = { λ v. view_of v.parts v.put [] };
 
     ghost right = { λ v. view_of 0 [] v.taken };
@@ -84,7 +84,7 @@ impl<T> Split<View<T>> for SplitTaken {
 /// What another pass took is returned.
 pub struct Absorb;
 
-impl<T> Join<View<T>> for Absorb {
+impl<T> Join<PassView<T>> for Absorb {
     ghost both = { λ v w. view_of v.parts v.put (v.taken ++ w.taken) };
 
     ghost spent = { spent };
@@ -93,7 +93,7 @@ impl<T> Join<View<T>> for Absorb {
 /// All was returned, and the board is cleared.
 pub struct Clear;
 
-impl<T> Split<View<T>> for Clear {
+impl<T> Split<PassView<T>> for Clear {
     ghost left = { λ v. view_of v.parts [] [] };
 
     ghost right = { λ v. spent };

@@ -19,7 +19,7 @@ use std::thread::{Scope, Threads};
 
 /// Why a run did not come to its end.
 #[derive(Drop, Debug, Clone, Copy, PartialEq, Eq)]
-pub enum Refused {
+pub enum CrewFault {
     /// Memory was refused.
     Memory,
     /// A thread did not start.
@@ -47,7 +47,7 @@ pub trait PhasedRun<T, D: DoneOf<T>, E> {
         ensures { IfOk result (gives self) };
 }
 
-// Starts the threads of this number of workers, which are numbered from 1 on.
+/// Starts the threads of this number of workers, which are numbered from 1 on.
 fn start<
     's,
     'e: 's,
@@ -61,9 +61,9 @@ fn start<
     shared: &'e Shared<'e, T, D, W, B, R>,
     seat: &mut PutSeat<T, B>,
     workers: usize,
-) -> Result<(), Refused>
+) -> Result<(), CrewFault>
     ensures seat { seat.new ≡ seat.old }
-    ensures refused { IfErr result (λ e. e ≡ Refused.Start → 2 ≤ workers) }
+    ensures refused { IfErr result (λ e. e ≡ CrewFault.Start → 2 ≤ workers) }
 {
     for worker in 1..workers {
         let theirs = shared.board.new_take_seat(seat);
@@ -71,13 +71,13 @@ fn start<
             requires { theirs ≡ [] }
         { shared.serve(worker, theirs) };
         if scope.spawn(serve).is_err() {
-            return Err(Refused::Start);
+            return Err(CrewFault::Start);
         }
     }
     Ok(())
 }
 
-// Starts the threads, and runs the phases with them.
+/// Starts the threads, and runs the phases with them.
 fn run_started<
     's,
     'e: 's,
@@ -94,22 +94,22 @@ fn run_started<
     seat: PutSeat<T, B>,
     workers: usize,
     phased: C,
-) -> Result<E, Refused>
+) -> Result<E, CrewFault>
     requires { seat ≡ put_view [] [] }
     ensures end { IfOk result (C.gives phased) }
-    ensures refused { IfErr result (λ e. e ≡ Refused.Start → 2 ≤ workers) }
+    ensures refused { IfErr result (λ e. e ≡ CrewFault.Start → 2 ≤ workers) }
 {
     let mut seat = seat;
     start(scope, shared, &mut seat, workers)?;
     let mut crew = Crew::new(shared, seat);
     match phased.run(shared.context.alloc, &mut crew) {
         Ok(end) => Ok(end),
-        Err(AllocError) => Err(Refused::Memory),
+        Err(AllocError) => Err(CrewFault::Memory),
     }
 }
 
-// Starts the threads in a scope of their own, runs the phases, and tells the threads that the run is over, however it
-// ended.
+/// Starts the threads in a scope of their own, runs the phases, and tells the threads that the run is over, however it
+/// ended.
 fn run_in_scope<
     'a,
     T: Drop + Send,
@@ -124,18 +124,18 @@ fn run_in_scope<
     seat: PutSeat<T, B>,
     workers: usize,
     phased: C,
-) -> Result<E, Refused>
+) -> Result<E, CrewFault>
     requires { seat ≡ put_view [] [] }
     ensures end { IfOk result (C.gives phased) }
-    ensures refused { IfErr result (λ e. e ≡ Refused.Start → 2 ≤ workers) }
+    ensures refused { IfErr result (λ e. e ≡ CrewFault.Start → 2 ≤ workers) }
 {
     thread::scope(
         thread::scope_env(),
         shared.context.rt,
-        move |scope| -> Result<E, Refused>
+        move |scope| -> Result<E, CrewFault>
             requires { seat ≡ put_view [] [] }
             ensures end { IfOk result (C.gives phased) }
-            ensures refused { IfErr result (λ e. e ≡ Refused.Start → 2 ≤ workers) }
+            ensures refused { IfErr result (λ e. e ≡ CrewFault.Start → 2 ≤ workers) }
         {
             let end = run_started(scope, shared, seat, workers, phased);
             shared.close();
@@ -144,7 +144,7 @@ fn run_in_scope<
     )
 }
 
-// Runs phases by workers who share a board, which gets its name here.
+/// Runs phases by workers who share a board, which gets its name here.
 fn run_named<
     T: Drop + Send,
     D: DoneOf<T> + Drop + Send,
@@ -158,10 +158,10 @@ fn run_named<
     blank: Blank<T>,
     options: CrewOptions,
     phased: C,
-) -> Result<E, Refused>
+) -> Result<E, CrewFault>
     requires { blank.name ≡ B.table }
     ensures end { IfOk result (C.gives phased) }
-    ensures refused { IfErr result (λ e. e ≡ Refused.Start → 2 ≤ options.workers) }
+    ensures refused { IfErr result (λ e. e ≡ CrewFault.Start → 2 ≤ options.workers) }
 {
     let CrewOptions {
         room,
@@ -171,7 +171,7 @@ fn run_named<
     // the board has room for so many tasks: each may have a result, and each worker may return none
     let room_for_results = room.saturating_add(workers).saturating_add(1);
     let Ok(returned) = ArrayQueue::new(context.alloc, room_for_results) else {
-        return Err(Refused::Memory);
+        return Err(CrewFault::Memory);
     };
     let (board, seat) = blank.named::<B>();
     let shared = Shared::<T, D, W, B, R>::new(context, board, returned, limits);
@@ -187,13 +187,13 @@ pub fn with_crew<
     R: Threads + Wait + Sync,
     E,
     C: PhasedRun<T, D, E> + Drop,
->(rt: &R, alloc: Global, work: &W, options: CrewOptions, phased: C) -> Result<E, Refused>
+>(rt: &R, alloc: Global, work: &W, options: CrewOptions, phased: C) -> Result<E, CrewFault>
     requires { 0 < options.room }
     ensures end { IfOk result (C.gives phased) }
-    ensures refused { IfErr result (λ e. e ≡ Refused.Start → 2 ≤ options.workers) }
+    ensures refused { IfErr result (λ e. e ≡ CrewFault.Start → 2 ≤ options.workers) }
 {
     let Ok(blank) = Blank::open(alloc, options.room) else {
-        return Err(Refused::Memory);
+        return Err(CrewFault::Memory);
     };
     let context = TaskContext { rt, alloc, work };
     run_named::<T, D, W, Brand, R, E, C>(context, blank, options, phased)

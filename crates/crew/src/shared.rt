@@ -70,7 +70,7 @@ impl<'a, T: Drop, D: DoneOf<T> + Drop, W: Work<T, D>, B: BoardName, R: Wait> Sha
         }
     }
 
-    // Waits until the workers with lower numbers have taken, but not for long.
+    /// Waits until the workers with lower numbers have taken, but not for long.
     fn wait_in_order(&self, worker: usize) {
         for _ in 0..self.limits.order_spins {
             if self.next_worker.load(Ordering::SeqCst) >= worker {
@@ -80,7 +80,7 @@ impl<'a, T: Drop, D: DoneOf<T> + Drop, W: Work<T, D>, B: BoardName, R: Wait> Sha
         }
     }
 
-    // Takes the task in front; the first one of a phase only after the workers with lower numbers.
+    /// Takes the task in front; the first one of a phase only after the workers with lower numbers.
     fn next_task(&self, worker: usize, seat: &mut TakeSeat<T, B>, is_first: bool) -> Option<T>
         ensures taken { IfSome result (λ t. seat.new ≡ seat.old ++ t ∷ []) }
         ensures same { IfNone result (seat.new ≡ seat.old) }
@@ -95,7 +95,7 @@ impl<'a, T: Drop, D: DoneOf<T> + Drop, W: Work<T, D>, B: BoardName, R: Wait> Sha
         task
     }
 
-    // Takes the task in front and runs it, where there is one. The only error is out of memory.
+    /// Takes the task in front and runs it, where there is one. The only error is out of memory.
     fn run_next(
         &self,
         worker: usize,
@@ -112,7 +112,7 @@ impl<'a, T: Drop, D: DoneOf<T> + Drop, W: Work<T, D>, B: BoardName, R: Wait> Sha
         Ok(true)
     }
 
-    // Takes tasks and runs them until the board is empty at one moment.
+    /// Takes tasks and runs them until the board is empty at one moment.
     fn run_tasks(
         &self,
         worker: usize,
@@ -148,7 +148,7 @@ impl<'a, T: Drop, D: DoneOf<T> + Drop, W: Work<T, D>, B: BoardName, R: Wait> Sha
         })
     }
 
-    // Returns to the caller what came of tasks. There is room for each, so it goes at once.
+    /// Returns to the caller what came of tasks. There is room for each, so it goes at once.
     fn send(&self, returned: ThreadResult<T, D, B>) {
         let rt = self.context.rt;
         let mut returned = returned;
@@ -162,7 +162,7 @@ impl<'a, T: Drop, D: DoneOf<T> + Drop, W: Work<T, D>, B: BoardName, R: Wait> Sha
         self.results_ready.raise();
     }
 
-    // Runs tasks and returns what came of them, or that memory was refused. Gives whether the thread goes on.
+    /// Runs tasks and returns what came of them, or that memory was refused. Gives whether the thread goes on.
     fn serve_once(&self, worker: usize, seat: &mut TakeSeat<T, B>) -> bool
         requires { seat.old ≡ [] }
         ensures { IsTrue result → seat.new ≡ [] }

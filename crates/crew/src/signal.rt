@@ -7,9 +7,9 @@ use std::{hint, thread};
 /// How long a worker looks for what it waits for, before it sleeps or goes on without it.
 #[derive(Clone, Copy)]
 pub struct WaitLimits {
-    /// This many looks with a pause between them.
+    /// How many looks a worker takes with a pause between them.
     pub spins: u32,
-    /// And then this many that leave the processor to another thread in between. Then it sleeps.
+    /// How many looks it takes after these that leave the processor to another thread in between, before it sleeps.
     pub yields: u32,
     /// This many looks for the workers with lower numbers, before it takes the first task of a phase. Workers take in
     /// the order of their numbers, as long as none of them is late, so that in each phase a worker gets the task of the
@@ -47,8 +47,8 @@ impl Signal {
         }
     }
 
-    // Looks this often whether it was raised since its count was `seen`, with a pause behind each look. Gives whether
-    // it was.
+    /// Looks this often whether it was raised since its count was `seen`, with a pause behind each look. Gives whether
+    /// it was.
     fn spin_past(&self, looks: u32, seen: u64) -> bool {
         for _ in 0..looks {
             if self.count() != seen {
@@ -59,7 +59,7 @@ impl Signal {
         false
     }
 
-    // Whether the signal is raised within so many looks; leaves the processor to another thread behind each.
+    /// Whether the signal is raised within so many looks; leaves the processor to another thread behind each.
     fn yield_past(&self, looks: u32, seen: u64) -> bool {
         for _ in 0..looks {
             if self.count() != seen {
@@ -70,7 +70,7 @@ impl Signal {
         false
     }
 
-    // Sleeps until it was raised since its count was `seen`.
+    /// Sleeps until it was raised since its count was `seen`.
     fn sleep_past<R: Wait>(&self, rt: &R, seen: u64) {
         self.sleepers.fetch_add(1, Ordering::SeqCst);
         for _ in rt.forever() {

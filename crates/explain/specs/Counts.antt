@@ -17,4 +17,5 @@ cores_there None = []
 -- how many traces there are, and how many there must be
 abbrev pub count_text : Option ℕ → ℕ → List ℕ
 count_text cores traces =
-    traces_named traces ++ cores_there cores ++ codes ": name one for each core, the same file more than once if need be\n"
+    traces_named traces ++ cores_there cores
+    ++ codes ": name one for each core, the same file more than once if need be\n"

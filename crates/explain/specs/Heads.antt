@@ -8,7 +8,7 @@ use Rattle.std.specs.Prelude.{ℕ, ◌≡◌, List, [], ◌++◌, codes, slice_g
 use Rattle.std.specs.Borrow.{Bor}
 use Rattle.std.specs.Option.{option_map_or}
 use Rattle.std.specs.declared.alloc.Global.{Global}
-use Rattle.refusal.specs.Heads.{IsText}
+use Rattle.sim_base.specs.Texts.{IsText}
 
 -- a text has this beginning
 pub record Begins (head text : List ℕ) : Type 0 where
@@ -30,4 +30,5 @@ trace_path paths core = option_map_or (λ p. p.now) (slice_get paths core) (code
 -- what is said of a trace that is too long
 abbrev pub length_text : List ℕ → List ℕ
 length_text path =
-    path ++ codes ": its lines stand for more than 2^62 entries: 'COUNT READ' for COUNT + 1, 'COUNT READ WRITE' for COUNT + 2\n"
+    path
+    ++ codes ": its lines stand for more than 2^62 entries: 'COUNT READ' for COUNT + 1, 'COUNT READ WRITE' for COUNT + 2\n"

@@ -1,7 +1,7 @@
 //! Why the numbers of a command line are refused.
 
 ghost use Rattle.std.specs.Prelude.{IfOk};
-ghost use Rattle.refusal.specs.Heads.{IsText};
+ghost use Rattle.sim_base.specs.Texts.{IsText};
 ghost use Rattle.explain.specs.Numbers.{numbers_text};
 
 use crate::counts::of_count;

@@ -3,7 +3,8 @@
 ghost use Rattle.std.specs.Prelude.{◌≡◌, ℕ, false, IfOk};
 ghost use Rattle.sim_base.specs.declared.fault.Fault.TheVariants.{TraceLine, TraceTooLong};
 ghost use Rattle.sim_base.specs.declared.fault.LineCause.{LineCause};
-ghost use Rattle.refusal.specs.Heads.{IsText, line_head};
+ghost use Rattle.refusal.specs.Heads.{line_head};
+ghost use Rattle.sim_base.specs.Texts.{IsText};
 ghost use Rattle.explain.specs.Heads.{StartsBy, IsSilent, trace_path, length_text};
 ghost use Rattle.explain.specs.Silence.{is_of_traces};
 

@@ -7,20 +7,20 @@ use Rattle.std.proofs.lemmas.Bool.Decides.{nat_tests}
 use Rattle.std.proofs.lemmas.List.{get_or_append_left, get_or-append-add, get_or-take, get_or-drop, length-take, length-drop, get_or_default}
 use Rattle.sim_base.specs.declared.config.Config.{Config}
 use Rattle.sim_base.specs.Counts.{in_flight}
-use Rattle.sim_base.specs.History.{below, is_unit, messages_of_core, messages_of_channel, insert_by_age}
+use Rattle.sim_base.specs.History.{below, is_unit, messages_of_core, messages_of_channel, insert_by_age, receiver_of}
 use Rattle.sim_base.specs.Machine.{run}
 use Rattle.sim_base.specs.declared.message.Message.{Message}
 use Rattle.sim_base.specs.declared.message.Unit.{Unit as MachineUnit}
 use Rattle.sim_base.specs.declared.message.Unit.TheVariants.{Core, Channel}
 use Rattle.sim_base.specs.declared.trace.Entry.{Entry}
 use Rattle.sim_base.proofs.Grows.{has_channels}
-use Rattle.links.specs.InFlight.{InFlight, receiver_of}
+use Rattle.links.specs.InFlight.{InFlight}
 use Rattle.units.specs.SpanLaws.Mail.{mail_in}
 use Rattle.units.specs.SpanLaws.Units.{Exists}
 use Rattle.units.specs.SpanLaws.FlightInTurns.{flight_of}
 use Rattle.units.specs.SpanLaws.Sent.{RequestsTravelFor, AnswersTakeFor}
 use Rattle.units.specs.SpanLaws.Turns.{IsInTurns, IsLowered}
-use Rattle.units.specs.SpanLaws.Turns.{MayBeLeft}
+use Rattle.units.specs.SpanLaws.Turns.{MaySleep}
 use Rattle.units.proofs.SpanLaws.Bringing.{unit-due, unit-overdue, channel-known, core-known}
 use Rattle.units.proofs.SpanLaws.FlightsInTurns.{flights-meet, channels-further, cores-further}
 use Rattle.units.proofs.SpanLaws.Jumps.{channels-taken, cores-taken, turns-jump, requests-none, answers-none}
@@ -32,13 +32,13 @@ use Rattle.units.proofs.Joining.{fresh-grows}
 use Rattle.units.proofs.Standing.{core-at_place, channel-at_place}
 use Rattle.in_place.specs.Turns.{AreByKind, AreInTurns, all_units, all_words}
 use Rattle.in_place.specs.declared.taking_turns.UnitsByKind.{UnitsByKind}
-use Rattle.units.specs.Wakes.{Sleeper, Waits, WaitAll, IsBrought, AllBrought, AreLowered, IsAsleep, units_from, links_after, sleeper, sleeper_at}
+use Rattle.units.specs.Wakes.{Sleeper, Waits, WaitAll, HoldsInbox, HoldInboxes, AreLowered, IsAsleep, units_from, links_after, sleeper, sleeper_at}
 use Rattle.units.specs.declared.timed_unit.TimedUnit.{TimedUnit}
 use Rattle.units.proofs.Going.{units-places}
-use Rattle.units.proofs.Jumping.{some-unit}
 use Rattle.units.specs.declared.machine.Machine.{Machine}
 use Rattle.units.specs.Runs.{run_of, sent_at}
 use Rattle.units.proofs.Sharing.{among-all}
+use Rattle.sim_base.proofs.Lists.{some-of}
 
 core-at : (s : Config) (core : ℕ) → core < s.cores → unit_at s (0 + core) ≡ Core core
 core-at s core l = let e : 0 + core ≡ core = omega arith in ap (unit_at s) e ∙ core-at_place s core l
@@ -76,11 +76,11 @@ channel-words_many machine a b kinds links k h =
     omega (arith, h.count, h.words_count, k.core_words, length-append kinds.cores.words.items kinds.channels.words.items)
 
 -- what is in flight is brought to the channels
-pub channels-brought : (machine : Machine) (a b until : ℕ) (units : List TimedUnit) (words : List ℕ) (links : InFlight) → AreInTurns machine a b units words links
-    → RequestsTravelFor machine.config (until - a) → AllBrought machine machine.config.cores machine.config.channels b a until links
-channels-brought machine a b until units words links h t k less =
-    subst (λ u. IsBrought machine b a until u links) (sym (channel-at machine.config k))
-    (subst (IsBrought machine b a until (Channel k)) (sym h.flight)
+pub channels-holds_inbox : (machine : Machine) (a b until : ℕ) (units : List TimedUnit) (words : List ℕ) (links : InFlight) → AreInTurns machine a b units words links
+    → RequestsTravelFor machine.config (until - a) → HoldInboxes machine machine.config.cores machine.config.channels b a until links
+channels-holds_inbox machine a b until units words links h t k less =
+    subst (λ u. HoldsInbox machine b a until u links) (sym (channel-at machine.config k))
+    (subst (HoldsInbox machine b a until (Channel k)) (sym h.flight)
     (record {
       channels_are = refl;
       overdue = unit-overdue machine.config machine.traces.items a b (Channel k);
@@ -88,12 +88,12 @@ channels-brought machine a b until units words links h t k less =
       known = channel-known machine.config machine.traces.items a until k t;
     }))
 
--- and to the cores
-pub cores-brought : (machine : Machine) (a b until : ℕ) (units : List TimedUnit) (words : List ℕ) (links : InFlight) → AreInTurns machine a b units words links
-    → AnswersTakeFor machine.config (until - b) → AllBrought machine 0 machine.config.cores a b until links
-cores-brought machine a b until units words links h t k less =
-    subst (λ u. IsBrought machine a b until u links) (sym (core-at machine.config k less))
-    (subst (IsBrought machine a b until (Core k)) (sym h.flight)
+-- what is in flight is brought to the cores
+pub cores-holds_inbox : (machine : Machine) (a b until : ℕ) (units : List TimedUnit) (words : List ℕ) (links : InFlight) → AreInTurns machine a b units words links
+    → AnswersTakeFor machine.config (until - b) → HoldInboxes machine 0 machine.config.cores a b until links
+cores-holds_inbox machine a b until units words links h t k less =
+    subst (λ u. HoldsInbox machine a b until u links) (sym (core-at machine.config k less))
+    (subst (HoldsInbox machine a b until (Core k)) (sym h.flight)
     (record {
       channels_are = refl;
       overdue = unit-overdue machine.config machine.traces.items a b (Core k);
@@ -131,7 +131,7 @@ right-here xs ys ws vs n k d e f =
     (ap (λ i. get_or (xs ++ ys) (i + k) d) (sym e) ∙ get_or-append-add xs ys k d)
     (ap (λ i. get_or (ws ++ vs) (i + k) 0) (sym f) ∙ get_or-append-add ws vs k 0)
 
--- where all units wait, the cores do, and so do the channels
+-- where all units wait, the cores do
 pub cores-wait : (machine : Machine) (now : ℕ) (kinds : UnitsByKind) → AreByKind machine kinds → WaitAll machine 0 now now (all_units kinds) (all_words kinds)
     → WaitAll machine 0 now now kinds.cores.units.items kinds.cores.words.items
 cores-wait machine now kinds k h i d l =
@@ -158,7 +158,7 @@ core-lowered : (machine : Machine) (a b until core : ℕ) (before after : Sleepe
     → sent ≡ flat_map (sent_by_channel machine b until) (below machine.config.channels) → after.part ≡ before.part → IsLowered machine.config (Core core) before.at before.wake after.at after.wake sent
     → Waits machine (Core core) a b before → Waits machine (Core core) a until after
 core-lowered machine a b until core before after sent k l near e same low h =
-    let left : MayBeLeft machine.config machine.traces.items a until (Core core) after.at after.wake =
+    let left : MaySleep machine.config machine.traces.items a until (Core core) after.at after.wake =
     core-keeps machine.config machine.traces.items a b until core before.at before.wake after.at after.wake (sent_by_channel machine b until) l near (channels-grow machine b until l)
     (record { behind = h.behind; ahead = h.ahead; silent = h.may.silent; none = h.may.none })
     (subst (IsLowered machine.config (Core core) before.at before.wake after.at after.wake) e low) in
@@ -173,7 +173,7 @@ channel-lowered : (machine : Machine) (a b until channel : ℕ) (before after : 
     → sent ≡ flat_map (sent_by_core machine a until) (below machine.config.cores) → after.part ≡ before.part → IsLowered machine.config (Channel channel) before.at before.wake after.at after.wake sent
     → Waits machine (Channel channel) b a before → Waits machine (Channel channel) b until after
 channel-lowered machine a b until channel before after sent k l near e same low h =
-    let left : MayBeLeft machine.config machine.traces.items until b (Channel channel) after.at after.wake =
+    let left : MaySleep machine.config machine.traces.items until b (Channel channel) after.at after.wake =
     channel-keeps machine.config machine.traces.items a b until channel before.at before.wake after.at after.wake (sent_by_core machine a until) l near (cores-grow machine a until l)
     (record { behind = h.behind; ahead = h.ahead; silent = h.may.silent; none = h.may.none })
     (subst (IsLowered machine.config (Channel channel) before.at before.wake after.at after.wake) e low) in
@@ -273,7 +273,7 @@ channels-turned machine a b until units moved words lowered new links after sent
     low_count : length lowered ≡ machine.config.cores
     low_count = low.count ∙ words_front
 
--- so it is after one of the cores
+-- after a turn of the cores the machine is in turns again
 pub cores-turned : (machine : Machine) (a b until : ℕ) (units moved : List TimedUnit) (words lowered new : List ℕ) (links after : InFlight) (sent : List Message)
     → AreInTurns machine a b units words links → a ≤ until → AnswersTakeFor machine.config (until - b)
     → length moved ≡ length (take machine.config.cores units) → length new ≡ length (take machine.config.cores words) → WaitAll machine 0 until b moved new
@@ -331,13 +331,13 @@ turns-later machine a b until units words links h l m sleep =
     }
   where
     some : TimedUnit
-    some = some-unit units (let c = has_channels machine.config in omega (arith, h.count, c))
+    some = some-of units (let c = has_channels machine.config in omega (arith, h.count, c))
 
     sleeps : (u : MachineUnit) → Exists machine.config u → until ≤ word_of machine.config words u
     sleeps (Core core) k = sleep core 0 (omega (arith, k, h.words_count, h.count))
     sleeps (Channel channel) k = sleep (machine.config.cores + channel) 0 (omega (arith, k, h.words_count, h.count))
 
-    waits : (u : MachineUnit) → Exists machine.config u → MayBeLeft machine.config machine.traces.items a b u (cycle_of machine.config units some u) (word_of machine.config words u)
+    waits : (u : MachineUnit) → Exists machine.config u → MaySleep machine.config machine.traces.items a b u (cycle_of machine.config units some u) (word_of machine.config words u)
     waits (Core core) k = let w = h.cores_wait core some k in record { behind = w.behind; ahead = w.ahead; silent = w.may.silent; none = w.may.none }
     waits (Channel channel) k = let w = h.channels_wait channel some k in record { behind = w.behind; ahead = w.ahead; silent = w.may.silent; none = w.may.none }
 
@@ -376,7 +376,7 @@ asleep-turns machine now units words links h whole =
       flight = h.flight ∙ ap {B = InFlight} (λ ms. record { channels = machine.config.channels; messages = ms }) (all-flight machine.config machine.traces.items now (length units) whole);
     }
 
--- and the other way round
+-- where a machine is in turns at one cycle, all its units wait there
 pub turns-asleep : (machine : Machine) (now : ℕ) (units : List TimedUnit) (words : List ℕ) (links : InFlight) → AreInTurns machine now now units words links → now ≤ 10 ^ 12
     → IsAsleep machine 0 now units words links
 turns-asleep machine now units words links h early =

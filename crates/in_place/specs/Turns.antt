@@ -1,11 +1,11 @@
 -- A machine whose cores stand at one cycle and whose channels at another, as they go on in turns.
---     AreInTurns machine cores_at channels_at units words links      what holds of it between two turns
---     AreByKind machine kinds      the cores of a machine at the first places, and the channels at those behind
+--     AreInTurns machine cores_at channels_at units words links      what holds of such a machine between two turns
+--     AreByKind machine kinds      the cores of a machine are at the first places, and its channels at the others
 --     all_units kinds, all_words kinds      all units, and all words
 --     AllAsleep machine now kinds links      all units wait at a cycle
---     InTurnsAt machine at kinds links      what holds between two turns of a machine that stands so
---     channels_to, cores_to until at      where it stands when one kind has gone on to a cycle
---     links_between machine cores_at channels_at      the links then
+--     InTurnsAt machine at kinds links      what holds between two turns of a machine that stands at these cycles
+--     channels_to, cores_to until at      where a machine stands when one kind has gone on to a cycle
+--     links_between machine cores_at channels_at      the links where the cores and the channels stand at these cycles
 use Rattle.std.specs.Prelude.{◌≡◌, ℕ, ◌+◌, ◌-◌, ◌<◌, List, ◌++◌, length}
 use Rattle.sim_base.specs.declared.message.Unit.TheVariants.{Core, Channel}
 use Rattle.links.specs.InFlight.{InFlight}
@@ -18,7 +18,7 @@ use Rattle.units.specs.declared.timed_unit.TimedUnit.{TimedUnit}
 use Rattle.in_place.specs.declared.taking_turns.TurnCycles.{TurnCycles}
 use Rattle.in_place.specs.declared.taking_turns.UnitsByKind.{UnitsByKind}
 
--- the links with what is in flight where the cores stand at one cycle and the channels at another
+-- the links with what is in flight where the cores stand at `cores_at` and the channels at `channels_at`
 abbrev pub links_between : Machine → ℕ → ℕ → InFlight
 links_between machine cores_at channels_at =
     record {
@@ -26,8 +26,8 @@ links_between machine cores_at channels_at =
       messages = flight_of machine.config machine.traces.items cores_at channels_at;
     }
 
--- The cores stand at one cycle and the channels at another, neither further ahead than what they send takes to the
--- others. Each unit waits, as far as is known from where the others stand, and the links hold exactly what is in
+-- The cores stand at `cores_at` and the channels at `channels_at`, neither further ahead than what they send takes to
+-- the others. Each unit waits, as far as is known from where the others stand, and the links hold exactly what is in
 -- flight.
 pub record AreInTurns (machine : Machine) (cores_at channels_at : ℕ) (units : List TimedUnit) (words : List ℕ) (links : InFlight) : Type 0 where
   pub count : length units ≡ unit_count machine.config
@@ -40,7 +40,7 @@ pub record AreInTurns (machine : Machine) (cores_at channels_at : ℕ) (units : 
       → Waits machine (Channel channel) channels_at cores_at (sleeper_at units words (machine.config.cores + channel) d)
   pub flight : links ≡ links_between machine cores_at channels_at
 
--- The cores of a machine are at its first places, and its channels at those behind.
+-- The cores of a machine are at its first places, and its channels at the places behind them.
 pub record AreByKind (machine : Machine) (kinds : UnitsByKind) : Type 0 where
   pub cores_first : kinds.cores.first ≡ 0
   pub channels_first : kinds.channels.first ≡ machine.config.cores
@@ -59,7 +59,7 @@ all_words kinds = kinds.cores.words.items ++ kinds.channels.words.items
 abbrev pub AllAsleep : Machine → ℕ → UnitsByKind → InFlight → Type 0
 AllAsleep machine now kinds links = IsAsleep machine 0 now (all_units kinds) (all_words kinds) links
 
--- a machine is between two turns, where it stands so
+-- a machine is between two turns, where its cores and its channels stand at these cycles
 abbrev pub InTurnsAt : Machine → TurnCycles → UnitsByKind → InFlight → Type 0
 InTurnsAt machine at kinds links =
     AreByKind machine kinds × AreInTurns machine at.cores_at at.channels_at (all_units kinds) (all_words kinds) links
@@ -68,6 +68,6 @@ InTurnsAt machine at kinds links =
 abbrev pub channels_to : ℕ → TurnCycles → TurnCycles
 channels_to until at = record at { channels_at = until }
 
--- where a machine stands when its cores have
+-- where a machine stands when its cores have gone on to a cycle
 abbrev pub cores_to : ℕ → TurnCycles → TurnCycles
 cores_to until at = record at { cores_at = until }

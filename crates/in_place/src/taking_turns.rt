@@ -16,7 +16,7 @@ use units::timed_unit::{Span, Traffic};
 use units::waking::{UnitRange, go_on};
 use units::words::take_up;
 
-/// The units of a machine: its cores, and its channels, whose places come after theirs.
+/// The units of a machine: its cores, and its channels, whose places come after those of the cores.
 #[derive(Drop)]
 pub(crate) struct UnitsByKind {
     pub cores: UnitRange,
@@ -113,7 +113,8 @@ fn wakes_before(words: &[Cycle], cycle: Cycle) -> bool
     first_below(words, cycle).is_some()
 }
 
-/// Where a machine in turns goes on from: where neither kind is past the least word, or the limit, from there.
+/// Where a machine in turns goes on from: the least wake word, or the limit if that comes sooner, where neither kind is
+/// past it.
 fn later(kinds: &UnitsByKind, at: TurnCycles, limit: Cycle) -> TurnCycles
     requires order { at.channels_at ≤ at.cores_at }
     requires within { at.cores_at ≤ limit }

@@ -30,7 +30,7 @@ use Rattle.sim_base.specs.declared.trace.Entry.TheVariants.{Plain, Read, Write}
 use Rattle.sim_base.proofs.Arrived.{Each-by_age}
 use Rattle.sim_base.proofs.Below.{flat_map_below_more}
 use Rattle.sim_base.proofs.Ordered.{Each-weaker}
-use Rattle.sim_base.proofs.Spans.{length-run, step_of_channel-next}
+use Rattle.sim_base.proofs.Spans.{length_run, step_of_channel-next}
 use Rattle.sim_base.proofs.Lists.{bit, count-cons}
 use Rattle.laws.specs.Messages.{memory_entry}
 use Rattle.laws.specs.Requests.{serves_entry_in, AnswersReadAs, AnswersRead, RepliesAnswerReads, ReadsAreAnsweredOnce}
@@ -209,7 +209,7 @@ command-one_reply s c entry k cycle (Some (Ref rank)) = omega arith
 channel-sends : (s : Config) (traces : List (List Entry)) (n k : ℕ) → k < s.channels
     → channel_sends s (run s traces n) (next_step s traces (run s traces n)) k ≡ messages_at s k n (chosen s traces n k)
 unfolding channel_sends
-channel-sends s traces n k l = ap₂ (λ i o. messages_at s k i o) (length-run s traces n) (step_of_channel-next s traces (run s traces n) k l)
+channel-sends s traces n k l = ap₂ (λ i o. messages_at s k i o) (length_run s traces n) (step_of_channel-next s traces (run s traces n) k l)
 
 channel-replies : (s : Config) (traces : List (List Entry)) (c entry n k : ℕ) → k < s.channels
     → 0 < count_by (replies_to s c entry) (channel_sends s (run s traces n) (next_step s traces (run s traces n)) k) → ServesAt s traces c entry k n

@@ -2,7 +2,7 @@
 use Rattle.std.proofs.Common.{◌≡◌, ℕ, ◌+◌, ◌≤◌, Bool, true, false, ◌&&◌, ◌||◌, cond, eqb, leb, List, [], ◌∷◌, ◌++◌, max, refl, ap, ap₂, ◌∙◌, arith}
 use Rattle.std.specs.Prelude.{not, is_some}
 use Rattle.std.specs.List.{AllByRecursion as Each, list_all, list_any}
-use Rattle.std.proofs.lemmas.Bool.{cond-true, and_from, le-leb, eqb-true, eq-eqb, cond_both}
+use Rattle.std.proofs.lemmas.Bool.{cond-true, le-leb, eqb-true, eq-eqb, cond_both}
 use Rattle.sim_base.specs.declared.config.Config.{Config}
 use Rattle.sim_base.specs.declared.timing.Timing.{Timing}
 use Rattle.sim_base.specs.declared.command.Kind.{Kind}
@@ -13,6 +13,7 @@ use Rattle.sim_base.specs.declared.command.Command.{Command}
 use Rattle.sim_base.specs.declared.command.Command.TheVariants.{Act, Rd, Wr, Pre, Prea, Ref}
 use Rattle.sim_base.specs.declared.command.IssuedCommand.{IssuedCommand}
 use Rattle.sim_base.specs.declared.place.BankId.{BankId}
+use Rattle.sim_base.proofs.Each.{list_all-each}
 use Rattle.sim_base.proofs.Ordered.{Each-weaker}
 use Rattle.sim_base.specs.History.{below}
 use Rattle.sim_base.specs.Rules.{is_bound, gap, kind_of, relation_of, is_past_gap, is_allowed, is_open, has_open_bank_in_group, has_open_bank, is_legal}
@@ -69,10 +70,6 @@ refresh-past t rank now at (Prea other) h =
     cond_both (eqb other rank) SameBank OtherRank (λ relation. past_gap t at now kind.Prea kind.Ref relation ≡ true) (λ e. le-leb _ _ (let l = h (eqb-true _ _ e) in omega arith)) (λ e. refl)
 refresh-past t rank now at (Ref other) h =
     cond_both (eqb other rank) SameBank OtherRank (λ relation. past_gap t at now kind.Ref kind.Ref relation ≡ true) (λ e. le-leb _ _ (let l = h (eqb-true _ _ e) in omega arith)) (λ e. refl)
-
-list_all-each : {X : Type 0} (p : X → Bool) (xs : List X) → Each (λ x. p x ≡ true) xs → list_all p xs ≡ true
-list_all-each p [] h = refl
-list_all-each p (x ∷ xs) h = and_from (p x) (list_all p xs) h.0 (list_all-each p xs h.1)
 
 -- where each earlier command lets it, a rank's banks can all be closed now
 pub close-legal : (s : Config) (history : List IssuedCommand) (now rank : ℕ) → Each (λ (i : IssuedCommand). LetsClose s.timing rank now i.cycle i.command) history

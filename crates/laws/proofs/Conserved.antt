@@ -31,12 +31,12 @@ use Rattle.sim_base.proofs.Grows.{sender_credit}
 use Rattle.sim_base.proofs.Spans.{step_of_channel-next}
 use Rattle.sim_base.proofs.Lists.{count-cons}
 use Rattle.laws.specs.Commands.{history_of}
-use Rattle.laws.specs.Credits.{requests_sent, credits_back, CreditsComeBackOnce}
+use Rattle.laws.specs.Credits.{requests_sent_count, credits_back, CreditsComeBackOnce}
 use Rattle.laws.proofs.Counting.{bit_le, count-append, count-none, count-weaker, count-weaker_each, count-fewer, count-flat_map-none, count-flat_map-bound, test_in, count-filter_map}
 use Rattle.laws.proofs.Legal.{chosen, history_of-more, count-history_of}
 use Rattle.laws.proofs.Receivers.{receiver_request, receiver_credit, place_in}
 use Rattle.laws.proofs.Sent.{OnlyFrom, count-messages, messages-none, sends-channel, issues-each, commands-each}
-use Rattle.laws.proofs.Spent.{count-inbox, inbox-more, spent, sent_now, requests_sent-more}
+use Rattle.laws.proofs.Spent.{count-inbox, inbox-more, spent, sent_now, requests_sent_count-more}
 use Rattle.laws.proofs.Traced.{requests_to, Queued, ServesQueued, chosen-serves}
 
 -- a request of this access of this core
@@ -235,13 +235,13 @@ served-none s traces core k access = refl
 
 -- what was sent is served, or not yet
 pub conserved : (s : Config) (traces : List (List Entry)) (core k : ℕ) (access : Access) → k < s.channels → (n : ℕ)
-    → unserved s traces n core k access + served s traces n core k access ≤ requests_sent s traces n core k access
+    → unserved s traces n core k access + served s traces n core k access ≤ requests_sent_count s traces n core k access
 conserved s traces core k access l zero = let a = unserved-none s traces core k access in let b = served-none s traces core k access in omega arith
 conserved s traces core k access l (suc n) =
     let a = unserved-more s traces n core k access l in
     let b = served-more s traces n core k access l in
-    let c = requests_sent-more s traces n core k access in
-    let d : unserved s traces n core k access + served s traces n core k access ≤ requests_sent s traces n core k access = conserved s traces core k access l n in
+    let c = requests_sent_count-more s traces n core k access in
+    let d : unserved s traces n core k access + served s traces n core k access ≤ requests_sent_count s traces n core k access = conserved s traces core k access l n in
     omega arith
 
 -- a credit of this kind for this core, from this channel

@@ -19,7 +19,7 @@ use Rattle.sim_base.specs.declared.message.Unit.TheVariants.{Channel}
 use Rattle.sim_base.specs.declared.trace.Entry.{Entry}
 use Rattle.std.proofs.lemmas.List.Kept.{AllPairs-cons}
 use Rattle.sim_base.proofs.Ordered.{Each-weaker}
-use Rattle.sim_base.proofs.Spans.{length-run, step_of_channel-next}
+use Rattle.sim_base.proofs.Spans.{length_run, step_of_channel-next}
 use Rattle.laws.specs.Commands.{channel_steps_of, history_of, CommandsAreLegal, IsLegalHistory, HistoriesAreLegal, CyclesAscend}
 use Rattle.sim_base.proofs.Each.{Each-append}
 use Rattle.sim_base.proofs.Lists.{count-push}
@@ -41,7 +41,7 @@ channel_steps_of-more s traces n k l =
 
 pub length-channel_steps_of : (s : Config) (traces : List (List Entry)) (n k : ℕ) → length (channel_steps_of s traces n k) ≡ n
 unfolding steps_of_channel
-length-channel_steps_of s traces n k = length-map (run s traces n) (step_of_channel k) ∙ length-run s traces n
+length-channel_steps_of s traces n k = length-map (run s traces n) (step_of_channel k) ∙ length_run s traces n
 
 -- P holds of each element and those before it
 abbrev pub EachAfter : {X : Type 0} → (List X → X → Type 0) → List X → Type 0

@@ -33,9 +33,9 @@ use Rattle.statistics.specs.Runs.{stats_of_core}
 use Rattle.laws.proofs.Receivers.{receiver_reply, Each-filter_passes}
 use Rattle.laws.proofs.Sent.{messages-none, issues-each}
 use Rattle.laws.proofs.Tabled.{rows_from, commands-more}
-use Rattle.request_table.specs.Requests.{if_within, reply_cycle, request_by, requests_of}
+use Rattle.request_table.specs.Requests.{if_within, reply_cycle, request_by, requests_of, cycles_from, reply_latency}
 use Rattle.request_table.specs.declared.times.RequestTimes.{RequestTimes}
-use Rattle.laws.specs.Totals.{rows_of_core, wait_for, wait_of_row, CoreAddsUp}
+use Rattle.laws.specs.Totals.{rows_of_core, CoreAddsUp}
 
 -- what is added for a message, or for a row, by when its reply comes and the entry that it answers
 abbrev Weight : Type 0
@@ -289,7 +289,7 @@ waited-message : (steps : List CoreStep) (arrival : ℕ) (o : Option ℕ) → we
 waited-message steps arrival None = refl
 waited-message steps arrival (Some entry) = refl
 
-waited-row : (steps : List CoreStep) (entry issued : ℕ) (o : Option ℕ) → issued ≡ issue_cycle steps entry → replied_weight (waited steps) entry o ≡ wait_for issued o
+waited-row : (steps : List CoreStep) (entry issued : ℕ) (o : Option ℕ) → issued ≡ issue_cycle steps entry → replied_weight (waited steps) entry o ≡ cycles_from issued o
 waited-row steps entry issued None e = refl
 waited-row steps entry issued (Some cycle) e = ap (λ n. cycle - n) (sym e)
 
@@ -331,8 +331,8 @@ core_adds_up s traces n core =
           ∙ sym (replies-weigh s traces n core one)
           ∙ replies-counted (length steps) mail;
       read_latency =
-          sym (sum-same (λ (row : RequestTimes). replied_weight (waited steps) row.entry row.replied) wait_of_row rows
-          (Each-weaker _ (λ (row : RequestTimes). replied_weight (waited steps) row.entry row.replied ≡ wait_of_row row)
+          sym (sum-same (λ (row : RequestTimes). replied_weight (waited steps) row.entry row.replied) reply_latency rows
+          (Each-weaker _ (λ (row : RequestTimes). replied_weight (waited steps) row.entry row.replied ≡ reply_latency row)
           (λ row h. waited-row steps row.entry row.issued row.replied (h.1 ∙ ap (λ c. issue_cycle (steps_of_core c all) row.entry) (eqb-true row.core core h.0))) rows (core-rows-say s all core)))
           ∙ sym (replies-weigh s traces n core (waited steps))
           ∙ sum-same (of_message (waited steps)) (λ (m : Message). wait_of steps m.arrival (replied_entry m.payload)) (filter (is_reply_before (length steps)) mail)

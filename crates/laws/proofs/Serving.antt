@@ -15,6 +15,7 @@ use Rattle.sim_base.specs.declared.command.Command.{Command}
 use Rattle.sim_base.specs.declared.command.Command.TheVariants.{Act, Rd, Wr, Pre, Prea, Ref}
 use Rattle.sim_base.specs.declared.command.IssuedCommand.{IssuedCommand}
 use Rattle.sim_base.specs.declared.command.Source.{Source}
+use Rattle.sim_base.proofs.Each.{Each-cons_option}
 use Rattle.request_table.specs.Served.{served_of, served_by, served_in, served_requests}
 use Rattle.request_table.specs.declared.served_requests.ServedRequest.{ServedRequest}
 use Rattle.request_table.specs.Requests.{arrival_of, replied_in, request_for, request_by, requests_of}
@@ -79,17 +80,13 @@ served-then arrivals hit channel cycle (Ref rank) = tt
 pub run-keeps : (s : Config) (history : List MachineStep) → KeepsCycles (served_in_run s history)
 run-keeps s history i = served-then _ _ i.channel i.cycle i.command
 
-each-cons : (P : ServedRequest → Type 0) (o : Option ServedRequest) (ys : List ServedRequest) → IfSome o P → Each P ys → Each P (cons_option o ys)
-each-cons P None ys h k = k
-each-cons P (Some y) ys h k = (h, k)
-
 -- of the commands of one cycle
 in_cycle : (f : IssuedCommand → Option ServedRequest) → KeepsCycles f → (cycle k : ℕ) (os : List (Option Command))
     → Each (λ r. r.served ≡ cycle) (filter_map f (filter_map (λ (e : ℕ × Option Command). issued_at e.0 cycle e.1) (enumerate_from k os)))
 in_cycle f h cycle k [] = tt
 in_cycle f h cycle k (None ∷ os) = in_cycle f h cycle (k + 1) os
 in_cycle f h cycle k (Some c ∷ os) =
-    each-cons (λ r. r.served ≡ cycle) (f (record { cycle = cycle; channel = k; command = c })) _ (h (record { cycle = cycle; channel = k; command = c })) (in_cycle f h cycle (k + 1) os)
+    Each-cons_option (λ r. r.served ≡ cycle) (f (record { cycle = cycle; channel = k; command = c })) _ (h (record { cycle = cycle; channel = k; command = c })) (in_cycle f h cycle (k + 1) os)
 
 then-later : (cycle until : ℕ) (xs ys : List ServedRequest) → Each (λ r. r.served ≡ cycle) xs → cycle < until → AreServed (cycle + 1) until ys → AreServed cycle until (xs ++ ys)
 then-later cycle until [] ys h l k = served-earlier (cycle + 1) cycle until (omega arith) ys k

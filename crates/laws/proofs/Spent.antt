@@ -22,9 +22,9 @@ use Rattle.sim_base.specs.declared.message.Unit.TheVariants.{Core}
 use Rattle.sim_base.specs.declared.trace.Entry.{Entry}
 use Rattle.sim_base.specs.declared.trace.Entry.TheVariants.{Plain, Read, Write}
 use Rattle.sim_base.proofs.Grows.{core-grows}
-use Rattle.sim_base.proofs.Spans.{length-run}
+use Rattle.sim_base.proofs.Spans.{length_run}
 use Rattle.sim_base.proofs.Lists.{count-cons}
-use Rattle.laws.specs.Credits.{requests_sent, credits_back, CreditsAreNeverOverspent}
+use Rattle.laws.specs.Credits.{requests_sent_count, credits_back, CreditsAreNeverOverspent}
 use Rattle.laws.proofs.Counting.{count-append, count-weaker, count-filter}
 use Rattle.laws.proofs.Sent.{count-by_age, count-messages, issues-each, issues-one}
 
@@ -50,10 +50,10 @@ inbox-more p s traces n unit =
 unfoldable pub sent_now : Config → List (List Entry) → ℕ → ℕ → ℕ → Access → ℕ
 sent_now s traces n core channel access = count_by (λ m. is_request_for channel access m.payload) (core_sends s traces (run s traces n) (next_step s traces (run s traces n)) core)
 
-pub requests_sent-more : (s : Config) (traces : List (List Entry)) (n core channel : ℕ) (access : Access)
-    → requests_sent s traces (suc n) core channel access ≡ requests_sent s traces n core channel access + sent_now s traces n core channel access
+pub requests_sent_count-more : (s : Config) (traces : List (List Entry)) (n core channel : ℕ) (access : Access)
+    → requests_sent_count s traces (suc n) core channel access ≡ requests_sent_count s traces n core channel access + sent_now s traces n core channel access
 unfolding run messages_of_core sent_now
-requests_sent-more s traces n core channel access =
+requests_sent_count-more s traces n core channel access =
     let p = λ (m : Message). is_request_for channel access m.payload in
     ap (count_by p) (core-grows s traces (run s traces n) (next_step s traces (run s traces n)) core)
     ∙ count-append p (messages_of_core s traces (run s traces n) core) (core_sends s traces (run s traces n) (next_step s traces (run s traces n)) core)
@@ -91,17 +91,17 @@ has_credit s core inbox sent channel access until h =
 -- a request of this kind to this channel is sent only where there is a credit for it
 abbrev IsPaid : Config → List (List Entry) → ℕ → ℕ → ℕ → Access → Message → Type 0
 IsPaid s traces n core channel access m =
-    is_request_for channel access m.payload ≡ true → requests_sent s traces n core channel access + 1 ≤ credit_cap s access + back_by s traces n core channel access (suc n)
+    is_request_for channel access m.payload ≡ true → requests_sent_count s traces n core channel access + 1 ≤ credit_cap s access + back_by s traces n core channel access (suc n)
 
 paid : (s : Config) (traces : List (List Entry)) (n core channel place : ℕ) (access : Access) → place ≡ channel
     → eqb (held s core (inbox s traces (run s traces n) (Core core)) (core_messages s core (trace_of traces core) (steps_of_core core (run s traces n))) place access (length (steps_of_core core (run s traces n)) + 1)) 0 ≡ false
-    → requests_sent s traces n core channel access + 1 ≤ credit_cap s access + back_by s traces n core channel access (suc n)
+    → requests_sent_count s traces n core channel access + 1 ≤ credit_cap s access + back_by s traces n core channel access (suc n)
 unfolding back_by steps_of_core
 paid s traces n core channel place access e h =
     let steps = steps_of_core core (run s traces n) in
     let mail = inbox s traces (run s traces n) (Core core) in
     let sent = core_messages s core (trace_of traces core) steps in
-    let long : length steps + 1 ≡ suc n = let a = length-map (run s traces n) (step_of_core core) in let b = length-run s traces n in omega arith in
+    let long : length steps + 1 ≡ suc n = let a = length-map (run s traces n) (step_of_core core) in let b = length_run s traces n in omega arith in
     has_credit s core mail sent channel access (suc n) (ap (λ u. eqb (held s core mail sent channel access u) 0) (sym long) ∙ ap (λ k. eqb (held s core mail sent k access (length steps + 1)) 0) (sym e) ∙ h)
 
 entry-paid : (s : Config) (traces : List (List Entry)) (n core channel cycle entry : ℕ) (access : Access) (e : Entry)
@@ -142,40 +142,40 @@ sent-one s traces n core channel access l =
     omega arith
 
 sent-paid : (s : Config) (traces : List (List Entry)) (n core channel : ℕ) (access : Access) → core < s.cores → 0 < sent_now s traces n core channel access
-    → requests_sent s traces n core channel access + 1 ≤ credit_cap s access + back_by s traces n core channel access (suc n)
+    → requests_sent_count s traces n core channel access + 1 ≤ credit_cap s access + back_by s traces n core channel access (suc n)
 unfolding sent_now
 sent-paid s traces n core channel access l h =
     where_some (λ (m : Message). is_request_for channel access m.payload)
-    (requests_sent s traces n core channel access + 1 ≤ credit_cap s access + back_by s traces n core channel access (suc n))
+    (requests_sent_count s traces n core channel access + 1 ≤ credit_cap s access + back_by s traces n core channel access (suc n))
     (core_sends s traces (run s traces n) (next_step s traces (run s traces n)) core) (core-paid s traces n core channel access l) h
 
-requests_sent-none : (s : Config) (traces : List (List Entry)) (core channel : ℕ) (access : Access) → requests_sent s traces 0 core channel access ≡ 0
+requests_sent_count-none : (s : Config) (traces : List (List Entry)) (core channel : ℕ) (access : Access) → requests_sent_count s traces 0 core channel access ≡ 0
 unfolding run steps_of_core core_messages
-requests_sent-none s traces core channel access = refl
+requests_sent_count-none s traces core channel access = refl
 
 spent-more : (s : Config) (traces : List (List Entry)) (core channel : ℕ) (access : Access) → core < s.cores → (n : ℕ)
-    → requests_sent s traces n core channel access ≤ credit_cap s access + credits_back s traces n core channel access
-    → requests_sent s traces (suc n) core channel access ≤ credit_cap s access + credits_back s traces (suc n) core channel access
+    → requests_sent_count s traces n core channel access ≤ credit_cap s access + credits_back s traces n core channel access
+    → requests_sent_count s traces (suc n) core channel access ≤ credit_cap s access + credits_back s traces (suc n) core channel access
 unfolding back_by
 spent-more s traces core channel access l n h =
-    let e = requests_sent-more s traces n core channel access in
+    let e = requests_sent_count-more s traces n core channel access in
     let one = sent-one s traces n core channel access l in
     let a = back_by-later s traces n core channel access in
     let b = credits_back-more s traces n core channel access in
     go (cases_lt 0 (sent_now s traces n core channel access)) e one a b
   where
     go : (0 < sent_now s traces n core channel access) ⊎ (sent_now s traces n core channel access ≤ 0)
-        → requests_sent s traces (suc n) core channel access ≡ requests_sent s traces n core channel access + sent_now s traces n core channel access
+        → requests_sent_count s traces (suc n) core channel access ≡ requests_sent_count s traces n core channel access + sent_now s traces n core channel access
         → sent_now s traces n core channel access ≤ 1
         → back_by s traces n core channel access n ≤ back_by s traces n core channel access (suc n)
         → back_by s traces n core channel access (suc n) ≤ credits_back s traces (suc n) core channel access
-        → requests_sent s traces (suc n) core channel access ≤ credit_cap s access + credits_back s traces (suc n) core channel access
+        → requests_sent_count s traces (suc n) core channel access ≤ credit_cap s access + credits_back s traces (suc n) core channel access
     go (inl p) e one a b = let c = sent-paid s traces n core channel access l p in omega arith
     go (inr z) e one a b = omega arith
 
 pub spent : (s : Config) (traces : List (List Entry)) (core channel : ℕ) (access : Access) → core < s.cores → (n : ℕ)
-    → requests_sent s traces n core channel access ≤ credit_cap s access + credits_back s traces n core channel access
-spent s traces core channel access l zero = let e = requests_sent-none s traces core channel access in omega arith
+    → requests_sent_count s traces n core channel access ≤ credit_cap s access + credits_back s traces n core channel access
+spent s traces core channel access l zero = let e = requests_sent_count-none s traces core channel access in omega arith
 spent s traces core channel access l (suc n) = spent-more s traces core channel access l n (spent s traces core channel access l n)
 
 pub credits_are_never_overspent : (s : Config) (traces : List (List Entry)) (n : ℕ) → CreditsAreNeverOverspent s traces n

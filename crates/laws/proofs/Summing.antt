@@ -7,20 +7,19 @@ use Rattle.std.proofs.lemmas.Bool.{cond-true, cond-false}
 use Rattle.sim_base.specs.declared.message.Access.TheVariants as access
 use Rattle.sim_base.specs.Access.{is_access}
 use Rattle.sim_base.specs.declared.config.Config.{Config}
-use Rattle.sim_base.specs.History.{issued_at, issued_commands, commands}
+use Rattle.sim_base.specs.History.{issued_at, issued_commands, commands, commands_on}
 use Rattle.sim_base.specs.Machine.{run}
 use Rattle.sim_base.specs.declared.command.Command.{Command}
 use Rattle.sim_base.specs.declared.command.Command.TheVariants.{Act, Rd, Wr, Pre, Prea, Ref}
 use Rattle.sim_base.specs.declared.command.IssuedCommand.{IssuedCommand}
 use Rattle.sim_base.specs.declared.command.Source.{Source}
 use Rattle.sim_base.specs.declared.trace.Entry.{Entry}
-use Rattle.sim_base.proofs.Spans.{length-run}
+use Rattle.sim_base.proofs.Spans.{length_run}
 use Rattle.sim_base.proofs.Lists.{count-cons}
 use Rattle.statistics.specs.Channels.{channel_stats}
 use Rattle.statistics.specs.Runs.{stats_of_channel}
 use Rattle.laws.specs.Commands.{history_of, channel_steps_of}
-use Rattle.laws.specs.Tables.{rows_on}
-use Rattle.laws.proofs.Tabled.{rows_on-commands}
+use Rattle.laws.proofs.Tabled.{commands_on-commands}
 use Rattle.request_table.specs.Served.{served_by, served_in, served_requests}
 use Rattle.request_table.specs.declared.served_requests.ServedRequest.{ServedRequest}
 use Rattle.request_table.specs.Requests.{arrival_of}
@@ -64,12 +63,12 @@ kept-cons k (Some r) ys true channel h e = cond-true _ _ _ (ap (λ n. eqb n k) h
 kept-cons k (Some r) ys false channel h e = cond-false _ _ _ (ap (λ n. eqb n k) h ∙ e)
 
 served-on : (f : IssuedCommand → Option ServedRequest) → ((i : IssuedCommand) → IfSome (f i) (λ r. r.channel ≡ i.channel)) → (k : ℕ) (xs : List IssuedCommand)
-    → filter (λ (r : ServedRequest). eqb r.channel k) (filter_map f xs) ≡ filter_map f (rows_on k xs)
+    → filter (λ (r : ServedRequest). eqb r.channel k) (filter_map f xs) ≡ filter_map f (commands_on k xs)
 served-on f h k [] = refl
 served-on f h k (x ∷ xs) = by (eqb x.channel k) refl (served-on f h k xs)
   where
-    by : (b : Bool) → eqb x.channel k ≡ b → filter (λ (r : ServedRequest). eqb r.channel k) (filter_map f xs) ≡ filter_map f (rows_on k xs)
-        → filter (λ (r : ServedRequest). eqb r.channel k) (filter_map f (x ∷ xs)) ≡ filter_map f (rows_on k (x ∷ xs))
+    by : (b : Bool) → eqb x.channel k ≡ b → filter (λ (r : ServedRequest). eqb r.channel k) (filter_map f xs) ≡ filter_map f (commands_on k xs)
+        → filter (λ (r : ServedRequest). eqb r.channel k) (filter_map f (x ∷ xs)) ≡ filter_map f (commands_on k (x ∷ xs))
     by true e g = kept-cons k (f x) (filter_map f xs) true x.channel (h x) e ∙ ap (cons_option (f x)) g ∙ ap (filter_map f) (sym (cond-true _ _ _ e))
     by false e g = kept-cons k (f x) (filter_map f xs) false x.channel (h x) e ∙ g ∙ ap (filter_map f) (sym (cond-false _ _ _ e))
 
@@ -91,11 +90,11 @@ rows-served s traces now channel l =
     let history = run s traces now in
     let f = served_in_run s history in
     let C = commands history in
-    ap (filter (λ (r : RequestTimes). eqb r.channel channel)) (are_timed s history ∙ ap (λ n. map (times_of s n) (filter_map f C)) (length-run s traces now))
+    ap (filter (λ (r : RequestTimes). eqb r.channel channel)) (are_timed s history ∙ ap (λ n. map (times_of s n) (filter_map f C)) (length_run s traces now))
     ∙ filter-times s now channel (filter_map f C)
     ∙ ap (map (times_of s now))
     (served-on f (λ i. on-channel _ _ i.channel i.cycle i.command) channel C
-    ∙ ap (filter_map f) (rows_on-commands s traces channel l now)
+    ∙ ap (filter_map f) (commands_on-commands s traces channel l now)
     ∙ own-serving s traces now channel)
 
 count-mapped : {X Y : Type 0} (g : X → Y) (p : Y → Bool) (q : X → Bool) → ((x : X) → p (g x) ≡ q x) → (xs : List X) → count_by p (map g xs) ≡ count_by q xs

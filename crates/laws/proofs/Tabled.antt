@@ -12,7 +12,7 @@ use Rattle.std.proofs.lemmas.List.FromFn.{length-map-range_with_len}
 use Rattle.sim_base.specs.declared.config.Config.{Config}
 use Rattle.sim_base.specs.Config.{refresh_slack}
 use Rattle.sim_base.specs.MachineStep.{MachineStep}
-use Rattle.sim_base.specs.History.{steps_of_channel, issued_at, issued_commands, commands_in, commands}
+use Rattle.sim_base.specs.History.{steps_of_channel, issued_at, issued_commands, commands_in, commands, commands_on, stands_before}
 use Rattle.sim_base.specs.Rules.{is_legal}
 use Rattle.sim_base.specs.Scheduling.{refreshes}
 use Rattle.sim_base.specs.Machine.{next_command, next_step, run}
@@ -21,10 +21,10 @@ use Rattle.sim_base.specs.declared.command.IssuedCommand.{IssuedCommand}
 use Rattle.sim_base.specs.declared.trace.Entry.{Entry}
 use Rattle.sim_base.proofs.Each.{Each-append}
 use Rattle.sim_base.proofs.Ordered.{Each-weaker}
-use Rattle.sim_base.proofs.Spans.{length-run, step_of_channel-next}
+use Rattle.sim_base.proofs.Spans.{length_run, step_of_channel-next}
 use Rattle.sim_base.proofs.Lists.{enumerate-append}
 use Rattle.laws.specs.Commands.{history_of}
-use Rattle.laws.specs.Tables.{rows_on, stands_before, TablesAreOrdered, TablesAreLegal, TablesAreRefreshed}
+use Rattle.laws.specs.Tables.{TablesAreOrdered, TablesAreLegal, TablesAreRefreshed}
 use Rattle.laws.proofs.Legal.{chosen, EachAfter, EachAfter-push, IsLegalStep, legal_step, length-channel_steps_of, history_of-more}
 use Rattle.laws.proofs.Due.{refreshed, refreshed-by}
 use Rattle.laws.proofs.Timely.{refreshed_in_time}
@@ -44,14 +44,14 @@ commands-more history machine_step =
     ∙ ap (λ x. commands history ++ x) (append-nil (commands_in (length history) machine_step))
 
 -- lower channels have no steps among them
-none_below : (cycle k i : ℕ) (os : List (Option Command)) → k < i → rows_on k (rows_from cycle i os) ≡ []
+none_below : (cycle k i : ℕ) (os : List (Option Command)) → k < i → commands_on k (rows_from cycle i os) ≡ []
 unfolding rows_from
 none_below cycle k i [] l = refl
 none_below cycle k i (None ∷ os) l = none_below cycle k (i + 1) os (omega arith)
 none_below cycle k i (Some c ∷ os) l = cond-false _ _ _ (ne_eqb i k (λ e. omega arith)) ∙ none_below cycle k (i + 1) os (omega arith)
 
 -- each channel has its own
-one_row : (cycle i : ℕ) (os : List (Option Command)) (j k : ℕ) → i + j ≡ k → rows_on k (rows_from cycle i os) ≡ cons_option (issued_at k cycle (get_or os j None)) []
+one_row : (cycle i : ℕ) (os : List (Option Command)) (j k : ℕ) → i + j ≡ k → commands_on k (rows_from cycle i os) ≡ cons_option (issued_at k cycle (get_or os j None)) []
 unfolding rows_from
 one_row cycle i [] j k e = refl
 one_row cycle i (None ∷ os) zero k e = none_below cycle k (i + 1) os (omega arith)
@@ -67,16 +67,16 @@ row-command : (s : Config) (traces : List (List Entry)) (n j : ℕ) → j < s.ch
 row-command s traces n j l = step_of_channel-next s traces (run s traces n) j l
 
 -- the steps of a channel in the table of a run are its history
-pub rows_on-commands : (s : Config) (traces : List (List Entry)) (k : ℕ) → k < s.channels → (n : ℕ) → rows_on k (commands (run s traces n)) ≡ history_of s traces n k
+pub commands_on-commands : (s : Config) (traces : List (List Entry)) (k : ℕ) → k < s.channels → (n : ℕ) → commands_on k (commands (run s traces n)) ≡ history_of s traces n k
 unfolding run commands steps_of_channel issued_commands
-rows_on-commands s traces k l zero = refl
-rows_on-commands s traces k l (suc n) =
+commands_on-commands s traces k l zero = refl
+commands_on-commands s traces k l (suc n) =
     let history = run s traces n in
     let machine_step = next_step s traces history in
-    ap (rows_on k) (commands-more history machine_step)
+    ap (commands_on k) (commands-more history machine_step)
     ∙ filter-append (λ (x : IssuedCommand). eqb x.channel k) (commands history) (rows_from (length history) 0 machine_step.commands)
-    ∙ ap₂ (λ x y. x ++ y) (rows_on-commands s traces k l n) (one_row (length history) 0 machine_step.commands k k (zero-add k))
-    ∙ ap₂ (λ i o. history_of s traces n k ++ cons_option (issued_at k i o) []) (length-run s traces n) (row-command s traces n k l)
+    ∙ ap₂ (λ x y. x ++ y) (commands_on-commands s traces k l n) (one_row (length history) 0 machine_step.commands k k (zero-add k))
+    ∙ ap₂ (λ i o. history_of s traces n k ++ cons_option (issued_at k i o) []) (length_run s traces n) (row-command s traces n k l)
     ∙ sym (history_of-more s traces n k l)
 
 -- each row of a table stands before the place of a cycle and a channel
@@ -93,10 +93,10 @@ stand-later cycle i table h = Each-weaker _ _ (λ (x : IssuedCommand) e. later x
 abbrev OfChoices : (List IssuedCommand → IssuedCommand → Type 0) → Config → List (List Entry) → ℕ → Type 0
 OfChoices P s traces n =
     (k : ℕ) (command : Command) (before : List IssuedCommand) → k < s.channels → chosen s traces n k ≡ Some command
-    → rows_on k before ≡ history_of s traces n k → StandBefore n k before → P before (record { cycle = n; channel = k; command = command })
+    → commands_on k before ≡ history_of s traces n k → StandBefore n k before → P before (record { cycle = n; channel = k; command = command })
 
 abbrev HaveHistories : Config → List (List Entry) → ℕ → ℕ → List IssuedCommand → Type 0
-HaveHistories s traces n i table = (k : ℕ) → i ≤ k → k < s.channels → rows_on k table ≡ history_of s traces n k
+HaveHistories s traces n i table = (k : ℕ) → i ≤ k → k < s.channels → commands_on k table ≡ history_of s traces n k
 
 -- what the channels from i on do in a cycle
 abbrev pub AreChosen : Config → List (List Entry) → ℕ → ℕ → List (Option Command) → Type 0
@@ -107,7 +107,7 @@ have-later : (s : Config) (traces : List (List Entry)) (n i : ℕ) (c : Command)
     → HaveHistories s traces n (i + 1) (table ++ record { cycle = n; channel = i; command = c } ∷ [])
 have-later s traces n i c table have k a b =
     filter-append (λ (x : IssuedCommand). eqb x.channel k) table _
-    ∙ ap (λ x. rows_on k table ++ x) (cond-false _ _ _ (ne_eqb i k (λ e. omega arith))) ∙ append-nil (rows_on k table) ∙ have k (omega arith) b
+    ∙ ap (λ x. commands_on k table ++ x) (cond-false _ _ _ (ne_eqb i k (λ e. omega arith))) ∙ append-nil (commands_on k table) ∙ have k (omega arith) b
 
 stand-more : (n i : ℕ) (c : Command) (table : List IssuedCommand) → StandBefore n i table → StandBefore n (i + 1) (table ++ record { cycle = n; channel = i; command = c } ∷ [])
 stand-more n i c table stand = Each-append _ table _ (stand-later n i table stand) (here, tt)
@@ -146,7 +146,7 @@ unfolding run commands
 table-stands s traces zero = tt
 table-stands s traces (suc n) =
     let history = run s traces n in
-    let long = length-run s traces n in
+    let long = length_run s traces n in
     subst (StandBefore (suc n) 0) (sym (commands-more history (next_step s traces history)))
     (Each-append _ (commands history) (rows_from (length history) 0 (next_step s traces history).commands)
     (stand-longer n (commands history) (table-stands s traces n)) (steps-stand (length history) (suc n) 0 (next_step s traces history).commands (omega arith)))
@@ -166,11 +166,11 @@ each_row P s traces h zero = λ t d l. absurd (omega arith)
 each_row P s traces h (suc n) =
     let history = run s traces n in
     let machine_step = next_step s traces history in
-    subst (EachAfter P) (sym (commands-more history machine_step ∙ ap (λ i. commands history ++ rows_from i 0 machine_step.commands) (length-run s traces n)))
-    (walk P s traces n (h n) machine_step.commands 0 (commands history) (next-chosen s traces n) (each_row P s traces h n) (λ k a b. rows_on-commands s traces k b n) (table-stands s traces n))
+    subst (EachAfter P) (sym (commands-more history machine_step ∙ ap (λ i. commands history ++ rows_from i 0 machine_step.commands) (length_run s traces n)))
+    (walk P s traces n (h n) machine_step.commands 0 (commands history) (next-chosen s traces n) (each_row P s traces h n) (λ k a b. commands_on-commands s traces k b n) (table-stands s traces n))
 
 -- ---- the laws
-legal-choices : (s : Config) (traces : List (List Entry)) (n : ℕ) → OfChoices (λ before row. is_legal s (rows_on row.channel before) row.cycle row.command ≡ true) s traces n
+legal-choices : (s : Config) (traces : List (List Entry)) (n : ℕ) → OfChoices (λ before row. is_legal s (commands_on row.channel before) row.cycle row.command ≡ true) s traces n
 unfolding IsLegalStep
 legal-choices s traces n k command before l e f stand =
     let long = length-channel_steps_of s traces n k in
@@ -179,13 +179,13 @@ legal-choices s traces n k command before l e f stand =
     ap (λ x. is_legal s x n command) f ∙ subst (λ o. IfSome o (λ c. is_legal s (history_of s traces n k) n c ≡ true)) e legal
 
 pub tables_are_legal : (s : Config) (traces : List (List Entry)) (n : ℕ) → TablesAreLegal s traces n
-tables_are_legal s traces n = each_row (λ before row. is_legal s (rows_on row.channel before) row.cycle row.command ≡ true) s traces (legal-choices s traces) n
+tables_are_legal s traces n = each_row (λ before row. is_legal s (commands_on row.channel before) row.cycle row.command ≡ true) s traces (legal-choices s traces) n
 
 -- a row does not come while a refresh of its channel is overdue
 abbrev IsRefreshedAfter : Config → List IssuedCommand → IssuedCommand → Type 0
 IsRefreshedAfter s before row =
     (rank : ℕ) → rank < s.ranks → 0 < s.timing.n_refi
-    → row.cycle ≤ (count_by (λ r. refreshes rank r.command) (rows_on row.channel before) + 1) * s.timing.n_refi + refresh_slack s
+    → row.cycle ≤ (count_by (λ r. refreshes rank r.command) (commands_on row.channel before) + 1) * s.timing.n_refi + refresh_slack s
 
 refreshed-choices : (s : Config) (traces : List (List Entry)) (n : ℕ) → OfChoices (IsRefreshedAfter s) s traces n
 refreshed-choices s traces n k command before l e f stand rank b some =

@@ -22,7 +22,7 @@ use Rattle.sim_base.specs.declared.message.Unit.{Unit as MachineUnit}
 use Rattle.sim_base.specs.declared.message.Unit.TheVariants.{Core, Channel}
 use Rattle.sim_base.specs.declared.trace.Entry.{Entry}
 use Rattle.sim_base.specs.declared.trace.Entry.TheVariants.{Plain, Read, Write}
-use Rattle.sim_base.proofs.Spans.{length-run}
+use Rattle.sim_base.proofs.Spans.{length_run}
 use Rattle.sim_base.proofs.Ordered.{Each-weaker}
 use Rattle.sim_base.specs.declared.message.Access.TheVariants as access
 use Rattle.laws.specs.Links.{arrives_on, LinksCarryOneACycle}
@@ -88,7 +88,7 @@ unfolding run
 messages-sent s traces zero = subst (Each (λ (m : Message). m.arrival < 0 + travel s m.link)) (sym (messages-none s traces)) tt
 messages-sent s traces (suc n) =
     let history = run s traces n in
-    let long : length history ≡ n = length-run s traces n in
+    let long : length history ≡ n = length_run s traces n in
     Each-messages _ s traces history (next_step s traces history)
     (Each-weaker _ (λ (m : Message). m.arrival < suc n + travel s m.link) (λ m h. omega arith) (messages s traces history) (messages-sent s traces n))
     (Each-weaker _ (λ (m : Message). m.arrival < suc n + travel s m.link) (λ m h. omega arith) (sends s traces history (next_step s traces history)) (sends-sent s traces history))
@@ -150,7 +150,7 @@ arrives_once s traces link cycle n = go (cases_lt cycle (n + travel s link))
         (λ m h. false_from_ne_true _ (λ e.
         let a = arrives link cycle m e in
         let b : travel s m.link ≡ travel s link = ap (travel s) a.0 in
-        let long = length-run s traces n in
+        let long = length_run s traces n in
         omega arith)) _ (sends-sent s traces (run s traces n))))
     go (inr l) =
         inl (count-none (arrives_on link cycle) _ (Each-weaker _ (λ m. arrives_on link cycle m ≡ false)

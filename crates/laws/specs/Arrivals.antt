@@ -13,4 +13,5 @@ use Rattle.request_table.specs.Requests.{arrival_of}
 abbrev pub RequestsArriveAsIssued : Config → List (List Entry) → ℕ → Type 0
 RequestsArriveAsIssued s traces n =
     (channel : ℕ) → channel < s.channels →
-    All (λ m. IfSome (request_in m.payload) (λ r. r.arrival ≡ arrival_of s (run s traces n) channel (source_of r))) (inbox s traces (run s traces n) (Channel channel))
+    All (λ m. IfSome (request_in m.payload) (λ r. r.arrival ≡ arrival_of s (run s traces n) channel (source_of r)))
+    (inbox s traces (run s traces n) (Channel channel))

@@ -18,7 +18,7 @@ use Rattle.sim_base.specs.declared.trace.Entry.{Entry}
 abbrev pub channel_steps_of : Config → List (List Entry) → ℕ → ℕ → List (Option Command)
 channel_steps_of s traces n channel = steps_of_channel channel (run s traces n)
 
--- its commands, each with its cycle
+-- the commands of a channel in the first n cycles of a run, each with its cycle
 abbrev pub history_of : Config → List (List Entry) → ℕ → ℕ → List IssuedCommand
 history_of s traces n channel = issued_commands channel (channel_steps_of s traces n channel)
 

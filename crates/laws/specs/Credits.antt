@@ -1,5 +1,5 @@
 -- The credits of a run, and the queues that they bound.
---     requests_sent s traces n core channel access      the requests of an access that a core sent to a channel in the first n cycles
+--     requests_sent_count s traces n core channel access      the requests of an access that a core sent to a channel in the first n cycles
 --     credits_back s traces n core channel access      the credits for it that came back to it from there before cycle n
 --     CreditsAreNeverOverspent s traces n      a core sends no more than its cap and what came back allow
 --     CreditsComeBackOnce s traces n      no more comes back than was sent
@@ -17,9 +17,10 @@ use Rattle.sim_base.specs.declared.trace.Entry.{Entry}
 use Rattle.laws.specs.Commands.{channel_steps_of}
 
 -- the reads, or the writes, that a core sent to a channel in the first n cycles
-abbrev pub requests_sent : Config → List (List Entry) → ℕ → ℕ → ℕ → Access → ℕ
-requests_sent s traces n core channel access =
-    count_by (λ m. is_request_for channel access m.payload) (core_messages s core (trace_of traces core) (steps_of_core core (run s traces n)))
+abbrev pub requests_sent_count : Config → List (List Entry) → ℕ → ℕ → ℕ → Access → ℕ
+requests_sent_count s traces n core channel access =
+    count_by (λ m. is_request_for channel access m.payload)
+    (core_messages s core (trace_of traces core) (steps_of_core core (run s traces n)))
 
 -- the credits for them that came back before cycle n
 abbrev pub credits_back : Config → List (List Entry) → ℕ → ℕ → ℕ → Access → ℕ
@@ -30,17 +31,18 @@ credits_back s traces n core channel access =
 abbrev pub CreditsAreNeverOverspent : Config → List (List Entry) → ℕ → Type 0
 CreditsAreNeverOverspent s traces n =
     (core channel : ℕ) (access : Access) → core < s.cores → channel < s.channels →
-    requests_sent s traces n core channel access ≤ credit_cap s access + credits_back s traces n core channel access
+    requests_sent_count s traces n core channel access ≤ credit_cap s access + credits_back s traces n core channel access
 
 -- no more credits for an access come back than there were requests, so a core never holds more than at first
 abbrev pub CreditsComeBackOnce : Config → List (List Entry) → ℕ → Type 0
 CreditsComeBackOnce s traces n =
     (core channel : ℕ) (access : Access) → core < s.cores → channel < s.channels →
-    credits_back s traces n core channel access ≤ requests_sent s traces n core channel access
+    credits_back s traces n core channel access ≤ requests_sent_count s traces n core channel access
 
 -- in no cycle does the queue of a channel have more requests than all cores together have credits for it
 abbrev pub QueuesAreBounded : Config → List (List Entry) → ℕ → Type 0
 QueuesAreBounded s traces n =
     (channel cycle : ℕ) → channel < s.channels → cycle ≤ n →
-    length (queue_in channel (channel_steps_of s traces n channel) (inbox s traces (run s traces n) (Channel channel)) cycle)
+    length
+    (queue_in channel (channel_steps_of s traces n channel) (inbox s traces (run s traces n) (Channel channel)) cycle)
     ≤ s.cores * (s.read_credits + s.write_credits)

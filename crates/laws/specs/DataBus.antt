@@ -31,4 +31,5 @@ has_data_in t cycle i = moves_data_in t cycle i.cycle i.command
 -- in no cycle do two commands of a channel have data on its bus
 abbrev pub DataBusIsShared : Config → List (List Entry) → ℕ → Type 0
 DataBusIsShared s traces n =
-    (channel cycle : ℕ) → channel < s.channels → count_by (has_data_in s.timing cycle) (history_of s traces n channel) ≤ 1
+    (channel cycle : ℕ) → channel < s.channels
+    → count_by (has_data_in s.timing cycle) (history_of s traces n channel) ≤ 1

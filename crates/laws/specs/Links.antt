@@ -13,4 +13,5 @@ arrives_on link cycle m = (m.link == link) && (m.arrival == cycle)
 
 -- of the messages that are sent in the first n cycles, at most one arrives on a link in a cycle
 abbrev pub LinksCarryOneACycle : Config → List (List Entry) → ℕ → Type 0
-LinksCarryOneACycle s traces n = (link cycle : ℕ) → count_by (arrives_on link cycle) (messages s traces (run s traces n)) ≤ 1
+LinksCarryOneACycle s traces n =
+    (link cycle : ℕ) → count_by (arrives_on link cycle) (messages s traces (run s traces n)) ≤ 1

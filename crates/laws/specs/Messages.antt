@@ -30,7 +30,8 @@ is_request_of core entry (payload.Credit access e) = false
 
 -- of the messages that are sent in the first n cycles, at most one is the request of an entry of a core
 abbrev pub RequestsAreSentOnce : Config → List (List Entry) → ℕ → Type 0
-RequestsAreSentOnce s traces n = (core entry : ℕ) → count_by (λ m. is_request_of core entry m.payload) (messages s traces (run s traces n)) ≤ 1
+RequestsAreSentOnce s traces n =
+    (core entry : ℕ) → count_by (λ m. is_request_of core entry m.payload) (messages s traces (run s traces n)) ≤ 1
 
 -- the entry of a trace that reads an address, or writes to it
 abbrev pub memory_entry : Access → ℕ → Entry
@@ -53,14 +54,18 @@ pub record IsRequestTo (s : Config) (traces : List (List Entry)) (history : List
 abbrev pub RequestsFit : Config → List (List Entry) → ℕ → Type 0
 RequestsFit s traces n =
     (channel : ℕ) → channel < s.channels →
-    All (λ m. IsSomeAnd (request_in m.payload) (IsRequestTo s traces (run s traces n) channel m)) (inbox s traces (run s traces n) (Channel channel))
+    All (λ m. IsSomeAnd (request_in m.payload) (IsRequestTo s traces (run s traces n) channel m))
+    (inbox s traces (run s traces n) (Channel channel))
 
 -- a message on this link to a core is a reply or a credit of a channel
 abbrev pub FitsCore : Config → ℕ → ℕ → Payload → Type 0
 FitsCore s core link (payload.Reply entry) = (channel : ℕ) × (channel < s.channels) × (link ≡ reply_link s core channel)
-FitsCore s core link (payload.Credit access entry) = (channel : ℕ) × (channel < s.channels) × (link ≡ credit_link s core channel)
+FitsCore s core link (payload.Credit access entry) =
+    (channel : ℕ) × (channel < s.channels) × (link ≡ credit_link s core channel)
 FitsCore s core link (payload.Request r) = ⊥
 
 -- each message to a core is such a reply or credit
 abbrev pub AnswersFit : Config → List (List Entry) → ℕ → Type 0
-AnswersFit s traces n = (core : ℕ) → core < s.cores → All (λ m. FitsCore s core m.link m.payload) (inbox s traces (run s traces n) (Core core))
+AnswersFit s traces n =
+    (core : ℕ) → core < s.cores
+    → All (λ m. FitsCore s core m.link m.payload) (inbox s traces (run s traces n) (Core core))

@@ -14,7 +14,8 @@ use Rattle.laws.specs.Commands.{channel_steps_of}
 -- how many REFs of a rank a channel issues by the end of a cycle
 abbrev pub refreshes_by : Config → List (List Entry) → ℕ → ℕ → ℕ → ℕ → ℕ
 refreshes_by s traces n channel rank cycle =
-    count_by (λ i. refreshes rank i.command) (issued_commands channel (take (cycle + 1) (channel_steps_of s traces n channel)))
+    count_by (λ i. refreshes rank i.command)
+    (issued_commands channel (take (cycle + 1) (channel_steps_of s traces n channel)))
 
 -- Where there are refreshes, the m-th REF of each rank stands at m * nREFI + refresh_slack or earlier, if that cycle is
 -- one of the run.

@@ -10,7 +10,7 @@ use Rattle.std.specs.Prelude.{◌≡◌, ℕ, ◌<◌, ◌≤◌, Bool, false, I
 use Rattle.sim_base.specs.declared.config.Config.{Config}
 use Rattle.sim_base.specs.History.{trace_of, steps_of_core, issued_before, inbox}
 use Rattle.sim_base.specs.Counts.{source_in}
-use Rattle.sim_base.specs.Scheduling.{queue_in, source_of}
+use Rattle.sim_base.specs.Scheduling.{queue_in, source_of, is_column_command_of}
 use Rattle.sim_base.specs.Machine.{run}
 use Rattle.sim_base.specs.Windows.{is_reply_to}
 use Rattle.sim_base.specs.declared.history.CoreStep.{CoreStep}
@@ -22,7 +22,6 @@ use Rattle.sim_base.specs.declared.message.Request.{Request}
 use Rattle.sim_base.specs.declared.message.Unit.TheVariants.{Core, Channel}
 use Rattle.sim_base.specs.declared.trace.Entry.{Entry}
 use Rattle.sim_base.specs.declared.trace.Entry.TheVariants.{Read}
-use Rattle.statistics.specs.Channels.{is_column_command_of}
 use Rattle.laws.specs.Commands.{channel_steps_of}
 
 -- a command is a column command for an entry of a core
@@ -36,7 +35,8 @@ serves_entry_in core entry (Some command) = serves_entry core entry command
 
 -- a channel serves an entry of a core in a cycle, by a column command
 abbrev pub IsServedAt : Config → List (List Entry) → ℕ → ℕ → ℕ → ℕ → ℕ → Type 0
-IsServedAt s traces n core entry channel cycle = IsTrue (serves_entry_in core entry (slice_index_or (channel_steps_of s traces n channel) cycle None))
+IsServedAt s traces n core entry channel cycle =
+    IsTrue (serves_entry_in core entry (slice_index_or (channel_steps_of s traces n channel) cycle None))
 
 -- an entry of a core is served by at most one channel, and in at most one cycle
 abbrev pub RequestsAreServedOnce : Config → List (List Entry) → ℕ → Type 0
@@ -63,12 +63,14 @@ AnswersRead trace steps m = AnswersReadAs trace steps m.arrival m.payload
 abbrev pub RepliesAnswerReads : Config → List (List Entry) → ℕ → Type 0
 RepliesAnswerReads s traces n =
     (core : ℕ) → core < s.cores →
-    All (AnswersRead (trace_of traces core) (steps_of_core core (run s traces n))) (inbox s traces (run s traces n) (Core core))
+    All (AnswersRead (trace_of traces core) (steps_of_core core (run s traces n)))
+    (inbox s traces (run s traces n) (Core core))
 
 -- no two replies are sent for the same entry
 abbrev pub ReadsAreAnsweredOnce : Config → List (List Entry) → ℕ → Type 0
 ReadsAreAnsweredOnce s traces n =
-    (core entry : ℕ) → core < s.cores → count_by (λ m. is_reply_to entry m.payload) (inbox s traces (run s traces n) (Core core)) ≤ 1
+    (core entry : ℕ) → core < s.cores
+    → count_by (λ m. is_reply_to entry m.payload) (inbox s traces (run s traces n) (Core core)) ≤ 1
 
 -- each command that is issued on behalf of an entry is issued while the entry's request is in the channel's queue
 abbrev pub CommandsNameTheQueue : Config → List (List Entry) → ℕ → Type 0

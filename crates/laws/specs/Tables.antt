@@ -1,28 +1,19 @@
 -- What holds of the table of all commands of a run, by cycle and then by channel.
---     rows_on channel table      the rows of one channel
 --     stands_before a b      a row is of an earlier cycle, or of the same and of a lower channel
 --     IsOrdered table      each row stands before those after it
 --     IsLegalTable s table      each row keeps the rules over the rows of its channel before it
 --     IsRefreshedTable s table      no row comes while a refresh of its channel is overdue
 --     TablesAreOrdered, TablesAreLegal, TablesAreRefreshed      these hold of the table of a run
-use Rattle.std.specs.Prelude.{ℕ, ◌+◌, ◌*◌, ◌<◌, ◌≤◌, ◌==◌, nat_lt, Bool, ◌&&◌, ◌||◌, IsTrue, List, length, take, filter, count_by, slice_index_or}
+use Rattle.std.specs.Prelude.{ℕ, ◌+◌, ◌*◌, ◌<◌, ◌≤◌, IsTrue, List, length, take, count_by, slice_index_or}
 use Rattle.std.specs.List.{AllPairs}
 use Rattle.sim_base.specs.declared.config.Config.{Config}
 use Rattle.sim_base.specs.Config.{refresh_slack}
-use Rattle.sim_base.specs.History.{commands}
+use Rattle.sim_base.specs.History.{commands, commands_on, stands_before}
 use Rattle.sim_base.specs.Rules.{is_legal}
 use Rattle.sim_base.specs.Scheduling.{refreshes}
 use Rattle.sim_base.specs.Machine.{run}
 use Rattle.sim_base.specs.declared.command.IssuedCommand.{IssuedCommand}
 use Rattle.sim_base.specs.declared.trace.Entry.{Entry}
-
--- the rows of one channel
-abbrev pub rows_on : ℕ → List IssuedCommand → List IssuedCommand
-rows_on channel table = filter (λ row. row.channel == channel) table
-
--- a row is of an earlier cycle, or of the same and of a lower channel
-abbrev pub stands_before : IssuedCommand → IssuedCommand → Bool
-stands_before a b = nat_lt a.cycle b.cycle || (a.cycle == b.cycle && nat_lt a.channel b.channel)
 
 -- each row stands before those after it
 abbrev pub IsOrdered : List IssuedCommand → Type 0
@@ -33,23 +24,24 @@ abbrev pub IsLegalTable : Config → List IssuedCommand → Type 0
 IsLegalTable s table =
     (i : ℕ) (d : IssuedCommand) → i < length table →
     let row = slice_index_or table i d in
-    IsTrue (is_legal s (rows_on row.channel (take i table)) row.cycle row.command)
+    IsTrue (is_legal s (commands_on row.channel (take i table)) row.cycle row.command)
 
 -- where there are refreshes, no row comes while a rank of its channel has missed one
 abbrev pub IsRefreshedTable : Config → List IssuedCommand → Type 0
 IsRefreshedTable s table =
     (i : ℕ) (d : IssuedCommand) (rank : ℕ) → i < length table → rank < s.ranks → 0 < s.timing.n_refi →
     let row = slice_index_or table i d in
-    row.cycle ≤ (count_by (λ r. refreshes rank r.command) (rows_on row.channel (take i table)) + 1) * s.timing.n_refi + refresh_slack s
+    row.cycle ≤ (count_by (λ r. refreshes rank r.command) (commands_on row.channel (take i table)) + 1) * s.timing.n_refi
+    + refresh_slack s
 
 -- the table of a run is ordered
 abbrev pub TablesAreOrdered : Config → List (List Entry) → ℕ → Type 0
 TablesAreOrdered s traces n = IsOrdered (commands (run s traces n))
 
--- it is legal
+-- the table of a run is legal
 abbrev pub TablesAreLegal : Config → List (List Entry) → ℕ → Type 0
 TablesAreLegal s traces n = IsLegalTable s (commands (run s traces n))
 
--- and no refresh is overdue in it
+-- no refresh is overdue in the table of a run
 abbrev pub TablesAreRefreshed : Config → List (List Entry) → ℕ → Type 0
 TablesAreRefreshed s traces n = IsRefreshedTable s (commands (run s traces n))

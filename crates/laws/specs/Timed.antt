@@ -13,8 +13,10 @@ use Rattle.request_table.specs.Tables.{times_of}
 
 -- the request that a command of a history serves, as its channel keeps it
 abbrev pub served_in_run : Config → List MachineStep → IssuedCommand → Option ServedRequest
-served_in_run s history i = served_in (arrival_of s history i.channel) (issued_commands i.channel (steps_of_channel i.channel history)) i
+served_in_run s history i =
+    served_in (arrival_of s history i.channel) (issued_commands i.channel (steps_of_channel i.channel history)) i
 
 -- the requests of a history are those that its channels keep, each with its times
 abbrev pub AreTimed : Config → List MachineStep → Type 0
-AreTimed s history = requests_of s history ≡ map (times_of s (length history)) (filter_map (served_in_run s history) (commands history))
+AreTimed s history =
+    requests_of s history ≡ map (times_of s (length history)) (filter_map (served_in_run s history) (commands history))

@@ -1,14 +1,15 @@
 -- What is taken out of two rings that stand one behind the other, and the first of what stands in them.
-use Rattle.std.proofs.Common.{ℕ, ◌+◌, ◌<◌, ◌≤◌, ◌≡◌, Bool, true, false, min, get_or, set, length, List, [], ◌∷◌, Option, Some, refl, sym, ap, ◌∙◌, arith}
-use Rattle.std.specs.Prelude.{filter, fold, slice_get}
-use Rattle.std.specs.Option.{option_map}
+use Rattle.std.proofs.Common.{ℕ, ◌+◌, ◌<◌, ◌≤◌, ◌≡◌, Bool, true, false, min, get_or, set, length, List, [], ◌∷◌, Some, refl, sym, ap, ◌∙◌, arith}
+use Rattle.std.specs.Prelude.{filter, fold}
 use Rattle.std.proofs.lemmas.Bool.Decides.{nat_tests}
 use Rattle.std.proofs.lemmas.List.{length-set, get_or-set_other}
 use Rattle.circular_buffer.specs.Buffer.{Buffer}
 use Rattle.sim_base.specs.History.{is_before, insert_by_age, by_age}
 use Rattle.sim_base.specs.declared.message.Message.{Message}
 use Rattle.sim_base.proofs.Arrived.{by_age-puts, fold-puts}
-use Rattle.links.specs.Rings.{contents, earlier_of}
+use Rattle.links.specs.Rings.{contents}
+use Rattle.links.specs.InFlight.{first_arrival}
+use Rattle.sim_base.specs.Earlier.{earlier}
 use Rattle.links.proofs.Merging.{merge_first, merge_second}
 use Rattle.links.proofs.Room.{items_at, taken_out}
 
@@ -39,16 +40,13 @@ first_before a b h = let l : b.arrival ≤ a.arrival = grind (arith, nat_tests) 
 first_after : (a b : Message) → is_before b a ≡ false → min a.arrival b.arrival ≡ a.arrival
 first_after a b h = let l : a.arrival ≤ b.arrival = grind (arith, nat_tests) in omega arith
 
-abbrev arrival_of_first : List Message → Option ℕ
-arrival_of_first ms = option_map (λ m. m.arrival) (slice_get ms 0)
-
 pub first_of_both : (xs ys : List Message) → by_age ys ≡ ys
-    → earlier_of (option_map (λ (m : Message). m.arrival) (slice_get xs 0)) (option_map (λ (m : Message). m.arrival) (slice_get ys 0))
-    ≡ option_map (λ (m : Message). m.arrival) (slice_get (fold insert_by_age xs ys) 0)
-first_of_both [] ys s = ap arrival_of_first (sym (fold_from_none ys s))
+    → earlier (first_arrival xs) (first_arrival ys)
+    ≡ first_arrival (fold insert_by_age xs ys)
+first_of_both [] ys s = ap first_arrival (sym (fold_from_none ys s))
 first_of_both (a ∷ xs) [] s = refl
 first_of_both (a ∷ xs) (b ∷ ys) s = by (is_before b a) refl
   where
-    by : (t : Bool) → is_before b a ≡ t → Some (min a.arrival b.arrival) ≡ arrival_of_first (fold insert_by_age (a ∷ xs) (b ∷ ys))
-    by true e = ap Some (first_before a b e) ∙ ap arrival_of_first (sym (merge_second a b xs ys s e))
-    by false e = ap Some (first_after a b e) ∙ ap arrival_of_first (sym (merge_first a b xs ys s e))
+    by : (t : Bool) → is_before b a ≡ t → Some (min a.arrival b.arrival) ≡ first_arrival (fold insert_by_age (a ∷ xs) (b ∷ ys))
+    by true e = ap Some (first_before a b e) ∙ ap first_arrival (sym (merge_second a b xs ys s e))
+    by false e = ap Some (first_after a b e) ∙ ap first_arrival (sym (merge_first a b xs ys s e))

@@ -2,10 +2,10 @@
 use Rattle.std.proofs.Common.{ℕ, ◌≡◌, Bool, true, false, ◌&&◌, not, leb, ltb, cond, List, [], ◌∷◌, refl, ap₂, arith}
 use Rattle.std.specs.Prelude.{filter}
 use Rattle.std.proofs.lemmas.Bool.Decides.{nat_tests}
-use Rattle.sim_base.specs.History.{is_unit}
+use Rattle.sim_base.specs.History.{is_unit, receiver_of}
 use Rattle.sim_base.specs.declared.message.Message.{Message}
 use Rattle.sim_base.specs.declared.message.Unit.{Unit as MachineUnit}
-use Rattle.links.specs.InFlight.{receiver_of, is_due, is_due_before}
+use Rattle.links.specs.InFlight.{is_due, is_due_before}
 
 not_overdue : (from until arrival : ℕ) (to : Bool) → (to && (leb 0 arrival && ltb arrival from)) ≡ false → (to && ltb arrival until) ≡ (to && (leb from arrival && ltb arrival until))
 not_overdue from until arrival true h = grind (arith, nat_tests)

@@ -8,7 +8,7 @@ use Rattle.std.proofs.lemmas.Bool.Decides.{nat_tests}
 use Rattle.std.proofs.lemmas.List.{get_or-set_other}
 use Rattle.std.proofs.lemmas.List.Elements.{filter-append}
 use Rattle.std.proofs.Math.Bool.{and-true}
-use Rattle.sim_base.specs.History.{is_unit, insert_by_age, by_age}
+use Rattle.sim_base.specs.History.{is_unit, insert_by_age, by_age, receiver_of}
 use Rattle.sim_base.specs.declared.message.Message.{Message}
 use Rattle.sim_base.specs.declared.message.Unit.{Unit as MachineUnit}
 use Rattle.sim_base.specs.declared.message.Unit.TheVariants.{Core, Channel}
@@ -16,7 +16,6 @@ use Rattle.sim_base.proofs.Arrived.{put, puts, by_age-puts, Each-put}
 use Rattle.sim_base.proofs.Each.{Each-append, Each-filter}
 use Rattle.sim_base.proofs.Lists.{filter-agree, filter-both}
 use Rattle.sim_base.proofs.Ordered.{Each-weaker, puts-append, filter-by_age}
-use Rattle.links.specs.InFlight.{receiver_of}
 use Rattle.links.specs.Rings.{ring_of, ring_to, ring_if_any, joined, IsRing, AreRings}
 use Rattle.links.proofs.Ages.{is_tie, in_order-Sorted, by_age-nil, by_age-twice, put-in_order, filter-in_order, puts-put_first}
 use Rattle.links.proofs.Merging.{by_age-merge}

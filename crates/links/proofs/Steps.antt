@@ -1,12 +1,11 @@
 -- The steps of the loops over one ring.
-use Rattle.std.proofs.Common.{ℕ, suc, zero, ◌+◌, ◌-◌, ◌<◌, ◌≤◌, ◌≡◌, Bool, true, false, not, ltb, get_or, set, length, length-set, drop, List, [], ◌∷◌, ◌++◌, Some, Result, Ok, Err, refl, sym, ap, ◌∙◌, subst, arith}
+use Rattle.std.proofs.Common.{ℕ, suc, zero, ◌+◌, ◌-◌, ◌<◌, ◌≤◌, ◌≡◌, Bool, true, false, not, ltb, get_or, set, length, length-set, drop, List, [], ◌∷◌, ◌++◌, Some, refl, sym, ap, ◌∙◌, subst, arith}
 use Rattle.std.specs.Prelude.{filter, insert, slice_get}
 use Rattle.std.specs.Option.{option_map_or}
 use Rattle.std.specs.List.{take_while, AllByRecursion as Each}
 use Rattle.std.proofs.lemmas.Bool.{cond-true, cond-false, le-ltb, ltb-false}
 use Rattle.std.proofs.lemmas.List.{get_or_default, get_or-set_other, set-set, length_push}
 use Rattle.std.proofs.lemmas.List.Sums.{take_while-cons}
-use Rattle.std.specs.Result.{IsOk, OnOk}
 use Rattle.sim_base.specs.History.{is_before, insert_by_age, by_age}
 use Rattle.sim_base.specs.declared.message.Message.{Message}
 use Rattle.sim_base.proofs.Arrived.{put, fold-puts, not_before_le}
@@ -133,7 +132,8 @@ placed_free m p xs ys s e l h k =
     placed m p xs (set ys p m) s e l h
     (λ q f. ap (is_before m) (get_or-set_other ys p q m m (λ g. absurd (omega (arith, f, g)))) ∙ k q f)
 
--- a message inserts from the back: at its place it would stand by age, but for those before it
+-- The place where a message is inserted is found by counting from the back: at place p it would stand by age, but for
+-- the messages before p.
 pub record Sinks (m : Message) (p : ℕ) (old ys : List Message) : Type 0 where
   pub within : p + 1 < length old
   pub length_is : length ys ≡ length old
@@ -181,10 +181,6 @@ inserted_among m y old pushed new s at young e h = h old y s e at (subst (λ o. 
 
 pub stands_twice : (y : Message) (old pushed : List Message) → slice_get old (length old - 1) ≡ Some y → pushed ≡ old ++ y ∷ [] → 2 ≤ length pushed
 stands_twice y old pushed at e = omega (arith, (got y y (length old - 1) old at).0, ap length e, length_push old y)
-
-pub where_ok : (P : Type 0) (r : Result (Unit {0}) Message) → IsOk r → OnOk r P → P
-where_ok P (Ok x) e h = h
-where_ok P (Err x) e h = cc
 
 last_not_younger : (m : Message) (q : ℕ) (xs : List Message) → q < length xs → option_map_or (is_before m) (slice_get xs q) false ≡ false → is_before m (get_or (xs ++ m ∷ []) q m) ≡ false
 last_not_younger m q [] l h = absurd (omega arith)

@@ -10,23 +10,18 @@
 --     without_due flight unit until      what is in flight when that is taken out
 --     in_flight_to flight unit      what is in flight to a unit
 --     first_arrival ms      when the first of some messages arrives
---     NoneBefore cycle ms      none of some messages arrives before a cycle
+--     NoneArrivesBefore cycle ms      none of some messages arrives before a cycle
 --     SomeAt cycle ms      one of them arrives in it
-use Rattle.std.specs.Prelude.{◌≡◌, ℕ, ◌/◌, ◌%◌, ◌==◌, ◌≤◌, nat_lt, nat_le, Bool, not, ◌&&◌, List, [], fold, filter, slice_get, All, Any, Option, option_map, if◌then◌else◌}
-use Rattle.sim_base.specs.History.{is_unit, insert_by_age}
+use Rattle.std.specs.Prelude.{◌≡◌, ℕ, ◌≤◌, nat_lt, nat_le, Bool, not, ◌&&◌, List, [], fold, filter, slice_get, All, Any, Option, option_map}
+use Rattle.sim_base.specs.History.{is_unit, insert_by_age, receiver_of}
 use Rattle.sim_base.specs.declared.config.Config.{Config}
 use Rattle.sim_base.specs.declared.message.Message.{Message}
 use Rattle.sim_base.specs.declared.message.Unit.{Unit as MachineUnit}
-use Rattle.sim_base.specs.declared.message.Unit.TheVariants.{Core, Channel}
 
 -- the messages in flight, by age, and the number of channels, which says where a link leads
 pub record InFlight : Type 0 where
   pub channels : ℕ
   pub messages : List Message
-
--- the unit that a link of a machine with this number of channels leads to
-abbrev pub receiver_of : ℕ → ℕ → MachineUnit
-receiver_of channels link = if link % 3 == 0 then Channel (link / 3 % channels) else Core (link / 3 / channels)
 
 -- a message that arrives before a cycle
 abbrev pub arrives_before : ℕ → Message → Bool
@@ -69,8 +64,8 @@ abbrev pub first_arrival : List Message → Option ℕ
 first_arrival ms = option_map (λ m. m.arrival) (slice_get ms 0)
 
 -- none of these messages arrives before a cycle
-abbrev pub NoneBefore : ℕ → List Message → Type 0
-NoneBefore cycle ms = All (λ m. cycle ≤ m.arrival) ms
+abbrev pub NoneArrivesBefore : ℕ → List Message → Type 0
+NoneArrivesBefore cycle ms = All (λ m. cycle ≤ m.arrival) ms
 
 -- one of these messages arrives in a cycle
 abbrev pub SomeAt : ℕ → List Message → Type 0

@@ -3,6 +3,7 @@
 --     ring_to channels m      the number of the ring that a message goes to
 --     ring_if_any channels unit      the number of a unit's first ring, if the machine has the unit
 --     AreNumbers channels numbers      the numbers of the rings of the first links
+--     HasRingNumbers channels numbers      they are those of a machine that has a channel
 --     contents rings      what stands in each ring
 --     joined rings      what stands in all of them, ring by ring
 --     messages_in rings      the messages in all rings, by age
@@ -11,7 +12,6 @@
 --     AreRings channels first rings      each ring holds messages that go to it, by age
 --     AreInRings channels numbers rings      what holds of the messages in flight on the links of a machine
 --     earlier_arrival least ms      the earlier of a cycle and of the first arrival
---     earlier_of first second      the earlier of two cycles
 --     arrives_later until m      a message does not arrive before a cycle
 --     due_of until ms, later_of until ms      those of some messages that arrive before a cycle, and the others
 --     head_of until ms      those at the head that arrive before a cycle
@@ -55,7 +55,8 @@ use Rattle.links.specs.InFlight.{arrives_before}
 -- the number of the ring of a link's messages; of those to a core, replies are on links with the remainder 1, credits
 -- with 2
 abbrev pub ring_of : ℕ → ℕ → ℕ
-ring_of channels link = if link % 3 == 0 then link / 3 % channels else channels + 2 * (link / 3 / channels) + (link % 3 - 1)
+ring_of channels link =
+    if link % 3 == 0 then link / 3 % channels else channels + 2 * (link / 3 / channels) + (link % 3 - 1)
 
 -- the number of the ring that a message goes to
 abbrev pub ring_to : ℕ → Message → ℕ
@@ -69,7 +70,13 @@ ring_if_any channels (Core core) = Some (channels + 2 * core)
 
 -- the numbers of the rings of the first links
 abbrev pub AreNumbers : ℕ → List ℕ → Type 0
-AreNumbers channels numbers = (link : ℕ) → link < length numbers → (slice_index_or numbers link 0 ≡ ring_of channels link) × (slice_index_or numbers link 0 + 1 < 2 ^ 64)
+AreNumbers channels numbers =
+    (link : ℕ) → link < length numbers
+    → (slice_index_or numbers link 0 ≡ ring_of channels link) × (slice_index_or numbers link 0 + 1 < 2 ^ 64)
+
+-- there is a channel, and these are the numbers of the rings of the first links
+abbrev pub HasRingNumbers : ℕ → List ℕ → Type 0
+HasRingNumbers channels numbers = (0 < channels) × AreNumbers channels numbers
 
 -- what stands in each ring
 abbrev pub contents : List (Buffer Message) → List (List Message)
@@ -101,7 +108,7 @@ pub record IsRing (channels number : ℕ) (ms : List Message) : Type 0 where
   pub to_ring : AllByRecursion (λ m. ring_to channels m ≡ number) ms
   pub in_order : by_age ms ≡ ms
 
--- so does each, where the first has this number
+-- each ring of a list holds messages that go to it, by age, where the first has the number `first`
 abbrev pub AreRings : ℕ → ℕ → List (List Message) → Type 0
 AreRings channels first [] = Unit {0}
 AreRings channels first (ms ∷ rest) = IsRing channels first ms × AreRings channels (first + 1) rest
@@ -114,7 +121,8 @@ AreInRings channels numbers rings = (0 < channels) × AreRings channels 0 (conte
 -- the ring has room for this many further messages
 pub record HasRoom (rings : List (Buffer Message)) (number more : ℕ) : Type 0 where
   pub exists : number < length rings
-  pub room : length (slice_index_or rings number (buffer [] 0)).items + more ≤ (slice_index_or rings number (buffer [] 0)).capacity
+  pub room : length (slice_index_or rings number (buffer [] 0)).items
+      + more ≤ (slice_index_or rings number (buffer [] 0)).capacity
 
 -- a message goes to this ring
 abbrev pub goes_to : ℕ → ℕ → Message → Bool
@@ -134,7 +142,8 @@ IsOneMore number old new = (n : ℕ) → slice_index_or new n 0 ≡ slice_index_
 
 -- each ring with a count has room for as many further messages
 abbrev pub HaveCountedRoom : List (Buffer Message) → List ℕ → Type 0
-HaveCountedRoom rings counts = (number : ℕ) → number < length counts → HasRoom rings number (slice_index_or counts number 0)
+HaveCountedRoom rings counts =
+    (number : ℕ) → number < length counts → HasRoom rings number (slice_index_or counts number 0)
 
 -- the list has room for this many further messages
 abbrev pub HasSpace : Vec Message Global → ℕ → Type 0
@@ -142,7 +151,8 @@ HasSpace list more = vec_len list + more ≤ vec_capacity list
 
 -- each ring that some of these messages go to has room for all that do
 abbrev pub CanTakeUp : ℕ → List (Buffer Message) → List Message → Type 0
-CanTakeUp channels rings ms = (number : ℕ) → 0 < count_to channels number ms → HasRoom rings number (count_to channels number ms)
+CanTakeUp channels rings ms =
+    (number : ℕ) → 0 < count_to channels number ms → HasRoom rings number (count_to channels number ms)
 
 -- the ring of each message has room for this many more
 abbrev pub HaveRoom : ℕ → List (Buffer Message) → ℕ → List Message → Type 0
@@ -179,17 +189,11 @@ pub record Grows (old new : List (Buffer Message)) : Type 0 where
 abbrev pub arrives_later : ℕ → Message → Bool
 arrives_later until m = not (arrives_before until m)
 
--- the earlier of two cycles; if there is only one of them, that one
-abbrev pub earlier_of : Option ℕ → Option ℕ → Option ℕ
-earlier_of None second = second
-earlier_of (Some a) None = Some a
-earlier_of (Some a) (Some b) = Some (min a b)
-
--- those of some messages that arrive before a cycle
+-- the messages of a list that arrive before a cycle
 abbrev pub due_of : ℕ → List Message → List Message
 due_of until ms = filter (arrives_before until) ms
 
--- those that do not
+-- the messages of a list that arrive in a cycle or later
 abbrev pub later_of : ℕ → List Message → List Message
 later_of until ms = filter (arrives_later until) ms
 
@@ -197,11 +201,11 @@ later_of until ms = filter (arrives_later until) ms
 abbrev pub head_of : ℕ → List Message → List Message
 head_of until ms = take_while (arrives_before until) ms
 
--- those of them from a place on
+-- of what stands before the first message that does not arrive before a cycle, the messages from a place on
 abbrev pub head_from : ℕ → ℕ → List Message → List Message
 head_from until start ms = drop start (head_of until ms)
 
--- what stands behind them
+-- the first message that does not arrive before a cycle, and what stands behind it
 abbrev pub behind_head : ℕ → List Message → List Message
 behind_head until ms = drop (length (head_of until ms)) ms
 
@@ -228,11 +232,13 @@ left_in until rings number = slice_set (contents rings) number (later_of until (
 
 -- and once it is taken out of the one behind it as well
 abbrev pub left_both : ℕ → List (Buffer Message) → ℕ → List (List Message)
-left_both until rings number = slice_set (left_in until rings number) (number + 1) (later_of until (messages_at rings (number + 1)))
+left_both until rings number =
+    slice_set (left_in until rings number) (number + 1) (later_of until (messages_at rings (number + 1)))
 
 -- this message stands before a place, and it is younger than another
 abbrev pub IsYoungerBefore : List Message → ℕ → Message → Message → Type 0
-IsYoungerBefore ms place m y = (0 < place) × (place ≤ length ms) × (slice_index_or ms (place - 1) y ≡ y) × (is_before m y ≡ true)
+IsYoungerBefore ms place m y =
+    (0 < place) × (place ≤ length ms) × (slice_index_or ms (place - 1) y ≡ y) × (is_before m y ≡ true)
 
 -- the message before a place is younger than another
 abbrev pub HasYoungerBefore : List Message → ℕ → Message → Type 0
@@ -244,7 +250,9 @@ NoneYoungerBefore ms place m = 0 < place → place ≤ length ms → is_before m
 
 -- others stood by age, of which the last was younger than this message and stood twice; now the message is among them
 abbrev pub IsInserted : Message → List Message → List Message → Type 0
-IsInserted m old new = (ms : List Message) (y : Message) → IsByAge ms → old ≡ ms ++ y ∷ [] → slice_get ms (length ms - 1) ≡ Some y → is_before m y ≡ true
+IsInserted m old new =
+    (ms : List Message) (y : Message) → IsByAge ms → old ≡ ms ++ y ∷ [] → slice_get ms (length ms - 1) ≡ Some y
+    → is_before m y ≡ true
     → new ≡ insert_by_age ms m
 
 -- the last of some messages is younger than this one

@@ -3,14 +3,14 @@
 ghost use Rattle.std.specs.Prelude.{◌≡◌, ◌+◌, ◌<◌, ◌^◌, ◌≤◌, [], ◌∷◌, length, fold, ◌==◌, true, false, ◌↔◌, IsTrue, IsNone, IfSome, IfOk, OnOk, OnErr, IsOkAnd};
 ghost use Rattle.std.specs.List.{list_all};
 ghost use Rattle.std.specs.List.Sorted.{IsPermutation};
-ghost use Rattle.links.specs.InFlight.{nothing_in_flight, with_sent, due_before, without_due, in_flight_to, first_arrival, NoneBefore, SomeAt};
-ghost use Rattle.links.specs.Rings.{ring_of, ring_if_any, contents, messages_in, messages_at, IsByAge, earlier_arrival, earlier_of, due_in, due_in_both, left_in, left_both, AreRings, HasRoom, HaveRoomForAll, AreNumbers, AreCounts, IsOneMore, HaveCountedRoom, CanTakeUp, HoldSame, HaveGained, JoinAlike, Grows};
+ghost use Rattle.links.specs.InFlight.{nothing_in_flight, with_sent, due_before, without_due, in_flight_to, first_arrival, NoneArrivesBefore, SomeAt};
+ghost use Rattle.links.specs.Rings.{ring_of, ring_if_any, contents, messages_in, messages_at, IsByAge, earlier_arrival, due_in, due_in_both, left_in, left_both, AreRings, HasRoom, HaveRoomForAll, AreNumbers, HasRingNumbers, AreCounts, IsOneMore, HaveCountedRoom, CanTakeUp, HoldSame, HaveGained, JoinAlike, Grows};
 
 use crate::merge::{copy_heads, messages_of};
 use crate::rings::{Ring, drop_first, first_arrival, make_room, put_by_age, take_before};
 use circular_buffer::HeapCircularBuffer;
 use sim_base::config::Config;
-use sim_base::message::{Cycle, LinkId, Message, Unit};
+use sim_base::message::{Cycle, LinkId, Message, Unit, earlier};
 use std::alloc::{AllocError, Global};
 use std::marker::Model;
 
@@ -81,8 +81,7 @@ fn numbers_of(alloc: Global, channels: u16, links: u64) -> Vec<usize>
 
 /// The number of the ring of a link's messages, by the numbers of the first links.
 fn number_of(numbers: &[usize], channels: u16, link: LinkId) -> usize
-    requires channels { 0 < channels }
-    requires numbers { AreNumbers channels numbers.now }
+    requires { HasRingNumbers channels numbers.now }
     ensures number { result ≡ ring_of channels link }
     ensures small { result + 1 < 2 ^ 64 }
 {
@@ -162,8 +161,7 @@ fn make_room_at(
 
 /// Whether there is room for all messages in each ring that one of them goes to.
 fn is_room_for(rings: &[Ring], numbers: &[usize], channels: u16, messages: &[Message]) -> bool
-    requires channels { 0 < channels }
-    requires numbers { AreNumbers channels numbers.now }
+    requires { HasRingNumbers channels numbers.now }
     ensures { IsTrue result → HaveRoomForAll channels rings.now messages.now }
 {
     for message in messages {
@@ -185,8 +183,7 @@ fn make_room_for_all(
     channels: u16,
     messages: &[Message],
 ) -> Result<(), AllocError>
-    requires channels { 0 < channels }
-    requires numbers { AreNumbers channels numbers.now }
+    requires { HasRingNumbers channels numbers.now }
     ensures grows { Grows rings.old.items rings.new.items }
     ensures room { OnOk result (HaveRoomForAll channels rings.new.items messages.now) }
 {
@@ -216,8 +213,7 @@ fn count_by_ring(
     channels: u16,
     messages: &[Message],
 ) -> Result<Vec<usize>, AllocError>
-    requires channels { 0 < channels }
-    requires numbers { AreNumbers channels numbers.now }
+    requires { HasRingNumbers channels numbers.now }
     ensures { IfOk result (λ counts. AreCounts channels messages.now counts.items) }
 {
     let mut counts = Vec::new(alloc);
@@ -251,8 +247,7 @@ fn make_room_for(
     channels: u16,
     messages: &[Message],
 ) -> Result<(), AllocError>
-    requires channels { 0 < channels }
-    requires numbers { AreNumbers channels numbers.now }
+    requires { HasRingNumbers channels numbers.now }
     ensures grows { Grows rings.old.items rings.new.items }
     ensures room { OnOk result (CanTakeUp channels rings.new.items messages.now) }
 {
@@ -277,8 +272,7 @@ fn put_one(
     channels: u16,
     message: &Message,
 ) -> Result<usize, AllocError>
-    requires channels { 0 < channels }
-    requires numbers { AreNumbers channels numbers.now }
+    requires numbers { HasRingNumbers channels numbers.now }
     requires rings { AreRings channels 0 (contents rings.old.items) }
     ensures number { IfOk result (λ number. number ≡ ring_of channels message.now.link) }
     ensures rings { AreRings channels 0 (contents rings.new.items) }
@@ -293,8 +287,7 @@ fn put_one(
 
 /// Puts messages into the rings that they go to, which have room for them.
 fn put_all(rings: &mut Vec<Ring>, numbers: &[usize], channels: u16, messages: &[Message])
-    requires channels { 0 < channels }
-    requires numbers { AreNumbers channels numbers.now }
+    requires numbers { HasRingNumbers channels numbers.now }
     requires rings { AreRings channels 0 (contents rings.old.items) }
     requires room { CanTakeUp channels rings.old.items messages.now }
     ensures rings { AreRings channels 0 (contents rings.new.items) }
@@ -337,8 +330,7 @@ fn take_up(
     channels: u16,
     messages: &mut [Message],
 ) -> Result<(), AllocError>
-    requires channels { 0 < channels }
-    requires numbers { AreNumbers channels numbers.now }
+    requires numbers { HasRingNumbers channels numbers.now }
     requires rings { AreRings channels 0 (contents rings.old.items) }
     ensures rings { AreRings channels 0 (contents rings.new.items) }
     ensures same { IsPermutation messages.old messages.new }
@@ -442,17 +434,6 @@ fn first_arrival_in(rings: &[Ring], number: usize) -> Option<Cycle>
     ensures { result ≡ first_arrival (messages_at rings.now number) }
 {
     first_arrival(rings.get(number)?)
-}
-
-/// The earlier of two cycles; if there is only one of them, that one.
-fn earlier(first: Option<Cycle>, second: Option<Cycle>) -> Option<Cycle>
-    ensures { result ≡ earlier_of first second }
-{
-    match (first, second) {
-        (Some(a), Some(b)) => Some(a.min(b)),
-        (None, _) => second,
-        (_, None) => first,
-    }
 }
 
 /// Whether nothing is in flight in any of these rings.
@@ -576,7 +557,8 @@ impl Links {
     /// When the first message in flight to a unit arrives; none, where none is in flight to it.
     pub fn next_arrival_at(&self, unit: Unit) -> Option<Cycle>
         ensures first { result ≡ first_arrival (in_flight_to self.now unit) }
-        ensures least { IfSome result (λ cycle. NoneBefore cycle (in_flight_to self.now unit)) }
+        ensures least { IfSome result (λ cycle.
+            NoneArrivesBefore cycle (in_flight_to self.now unit)) }
     {
         let Some(number) = ring_of_unit(self.channels, unit) else {
             return None;
@@ -591,7 +573,7 @@ impl Links {
     /// The least arrival of a message in flight; none, where none is in flight.
     pub fn next_arrival(&self) -> Option<Cycle>
         ensures none { IsNone result ↔ (self.now.messages ≡ []) }
-        ensures least { IfSome result (λ cycle. NoneBefore cycle self.now.messages) }
+        ensures least { IfSome result (λ cycle. NoneArrivesBefore cycle self.now.messages) }
         ensures attained { IfSome result (λ cycle. SomeAt cycle self.now.messages) }
     {
         earliest(&self.rings)

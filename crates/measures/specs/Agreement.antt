@@ -25,7 +25,8 @@ IsReplyOfRun cycles None = ⊤
 -- the run has the core, the channel and the cycles of a request
 abbrev pub IsOfRun : RunStats → RequestTimes → Type 0
 IsOfRun stats request =
-    (request.core < length stats.cores) × (request.channel < length stats.channels) × (request.served < stats.cycles) × IsReplyOfRun stats.cycles request.replied
+    (request.core < length stats.cores) × (request.channel < length stats.channels) × (request.served < stats.cycles)
+    × IsReplyOfRun stats.cycles request.replied
 
 -- the request at this place, if there is one, is of the run
 abbrev pub IsOfRunAt : RunStats → List RequestTimes → ℕ → Type 0
@@ -74,7 +75,8 @@ IsNextOfCore stats requests core _ = ⊥
 abbrev pub IsNextOfChannel : RunStats → List RequestTimes → ℕ → Tally → Type 0
 IsNextOfChannel stats requests channel (Reads unit) = unit ≡ channel
 IsNextOfChannel stats requests channel (Writes unit) = (unit ≡ channel) × IsTold (Reads channel) stats requests
-IsNextOfChannel stats requests channel (Hits unit) = (unit ≡ channel) × IsTold (Reads channel) stats requests × IsTold (Writes channel) stats requests
+IsNextOfChannel stats requests channel (Hits unit) =
+    (unit ≡ channel) × IsTold (Reads channel) stats requests × IsTold (Writes channel) stats requests
 IsNextOfChannel stats requests channel _ = ⊥
 
 -- a count of a core, where those of the cores before it and those of the core that are tested before it are told

@@ -5,11 +5,11 @@
 --     every_bank      the banks that a channel may have, by rank, group and bank
 --     counts_in commands bank      what a bank did, over the commands of its channel
 --     channel_counts channel commands      the same of each bank of a channel that a command names
-use Rattle.std.specs.Prelude.{ℕ, ◌+◌, ◌/◌, ◌%◌, ◌==◌, Bool, false, List, map, filter, Option, Some, None}
+use Rattle.std.specs.Prelude.{ℕ, ◌+◌, ◌==◌, Bool, false, List, map, filter, Option, Some, None}
 use Rattle.std.specs.List.{list_any}
 use Rattle.sim_base.specs.Counts.{issued_of_kind, hits}
 use Rattle.sim_base.specs.History.{below}
-use Rattle.sim_base.specs.Places.{is_bank}
+use Rattle.sim_base.specs.Places.{is_bank, bank_at}
 use Rattle.sim_base.specs.Rules.{bank_of, rank_of}
 use Rattle.sim_base.specs.declared.command.IssuedCommand.{IssuedCommand}
 use Rattle.sim_base.specs.declared.command.Kind.TheVariants as kind
@@ -44,10 +44,6 @@ is_of_rank rank issued = rank_of issued.command == rank
 -- the commands that do
 unfoldable pub of_rank : ℕ → List IssuedCommand → List IssuedCommand
 of_rank rank commands = filter (is_of_rank rank) commands
-
--- the bank at a place among the 64 that a channel may have: 4 ranks of 4 groups of 4 banks
-abbrev pub bank_at : ℕ → BankId
-bank_at place = record { rank = place / 16; group = place / 4 % 4; bank = place % 4 }
 
 -- all of them, by rank, group and bank
 unfoldable pub every_bank : List BankId

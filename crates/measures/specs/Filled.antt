@@ -31,4 +31,5 @@ FillsNext kind form rest text = FillsPlaceholder kind form rest text ⊎ HasNoPl
 unfoldable pub IsFilled : {P : Type 0} → (P → List ℕ → Type 0) → List ℕ → List P → List ℕ → Type 0
 IsFilled appends form [] text = text ≡ form
 IsFilled appends form (piece ∷ pieces) text =
-    (rest : List ℕ) × (first : List ℕ) × (later : List ℕ) × FillsNext (appends piece) form rest first × IsFilled appends rest pieces later × (text ≡ first ++ later)
+    (rest : List ℕ) × (first : List ℕ) × (later : List ℕ) × FillsNext (appends piece) form rest first
+    × IsFilled appends rest pieces later × (text ≡ first ++ later)

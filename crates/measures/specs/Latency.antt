@@ -32,4 +32,5 @@ pub record AreLatencies (values : List ℕ) (found : Latencies) : Type 0 where
 
 -- those of the latencies of the reads whose reply came; none where no reply came
 abbrev pub AreLatenciesOf : List RequestTimes → Option Latencies → Type 0
-AreLatenciesOf requests found = MatchOption found (read_latencies requests ≡ []) (AreLatencies (read_latencies requests))
+AreLatenciesOf requests found =
+    MatchOption found (read_latencies requests ≡ []) (AreLatencies (read_latencies requests))

@@ -52,7 +52,9 @@ limit_of form power = if (power == 3) || (is_percent form && (power == 2)) then 
 
 -- with its last digit there a number has no more decimals than its form, and few digits
 unfoldable pub fits : NumberForm → ℕ → ℕ → Bool
-fits form power halves = (nat_lt 3 power || nat_le (decimals_of power) (most_decimals form)) && nat_lt (digits_of power halves) (limit_of form power)
+fits form power halves =
+    (nat_lt 3 power || nat_le (decimals_of power) (most_decimals form))
+    && nat_lt (digits_of power halves) (limit_of form power)
 
 -- the place of the last digit: the least that fits
 unfoldable pub least_power : NumberForm → ℕ → Option ℕ
@@ -67,11 +69,13 @@ abbrev pub tenths_text : ℕ → List ℕ
 tenths_text tenths = decimal (tenths / 10) ++ codes "." ++ decimal (tenths % 10)
 
 abbrev pub hundredths_text : ℕ → List ℕ
-hundredths_text hundredths = decimal (hundredths / 100) ++ codes "." ++ decimal (hundredths / 10 % 10) ++ decimal (hundredths % 10)
+hundredths_text hundredths =
+    decimal (hundredths / 100) ++ codes "." ++ decimal (hundredths / 10 % 10) ++ decimal (hundredths % 10)
 
 abbrev pub thousandths_text : ℕ → List ℕ
 thousandths_text thousandths =
-    decimal (thousandths / 1000) ++ codes "." ++ decimal (thousandths / 100 % 10) ++ decimal (thousandths / 10 % 10) ++ decimal (thousandths % 10)
+    decimal (thousandths / 1000) ++ codes "." ++ decimal (thousandths / 100 % 10) ++ decimal (thousandths / 10 % 10)
+    ++ decimal (thousandths % 10)
 
 -- digits with so many decimals
 abbrev pub digits_text : ℕ → ℕ → List ℕ
@@ -84,7 +88,8 @@ digits_text decimals digits =
 -- a number of a form
 unfoldable pub written : NumberForm → ℕ → List ℕ
 written form halves =
-    digits_text (decimals_of (power_of form halves)) (digits_of (power_of form halves) halves) ++ unit_of (power_of form halves)
+    digits_text (decimals_of (power_of form halves)) (digits_of (power_of form halves) halves)
+    ++ unit_of (power_of form halves)
 
 abbrev pub text_or_dash : NumberForm → Option ℕ → List ℕ
 text_or_dash form (Some halves) = written form halves

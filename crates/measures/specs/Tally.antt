@@ -2,7 +2,7 @@
 --     part tally request      what a request adds to a count
 --     amount tally requests      the count over requests
 --     told tally stats      what the statistics have of it
-use Rattle.std.specs.Prelude.{ℕ, ◌-◌, ◌==◌, List, slice_get, Option, Some, None, if◌then◌else◌}
+use Rattle.std.specs.Prelude.{ℕ, ◌==◌, List, slice_get, Option, Some, None, if◌then◌else◌}
 use Rattle.std.specs.List.{sum_by}
 use Rattle.sim_base.specs.declared.message.Access.{Access}
 use Rattle.sim_base.specs.declared.message.Access.TheVariants.{Read, Write}
@@ -10,6 +10,7 @@ use Rattle.request_table.specs.declared.times.RequestTimes.{RequestTimes}
 use Rattle.statistics.specs.Values.{RunStats}
 use Rattle.measures.specs.declared.request_check.tally.Tally.{Tally}
 use Rattle.measures.specs.declared.request_check.tally.Tally.TheVariants.{Replies, ReadLatency, Reads, Writes, Hits}
+use Rattle.request_table.specs.Requests.{reply_latency}
 
 -- one for a request whose reply came
 abbrev pub one_if_came : Option ℕ → ℕ
@@ -18,14 +19,6 @@ one_if_came None = 0
 
 abbrev pub replies : RequestTimes → ℕ
 replies request = one_if_came request.replied
-
--- how long it took then
-abbrev pub cycles_from : ℕ → Option ℕ → ℕ
-cycles_from issued (Some cycle) = cycle - issued
-cycles_from issued None = 0
-
-abbrev pub latency : RequestTimes → ℕ
-latency request = cycles_from request.issued request.replied
 
 abbrev pub one_if_read : Access → ℕ
 one_if_read Read = 1
@@ -47,7 +40,7 @@ hits request = if request.hit then 1 else 0
 -- what a request adds to a count; nothing to that of another unit
 abbrev pub part : Tally → RequestTimes → ℕ
 part (Replies core) request = if request.core == core then replies request else 0
-part (ReadLatency core) request = if request.core == core then latency request else 0
+part (ReadLatency core) request = if request.core == core then reply_latency request else 0
 part (Reads channel) request = if request.channel == channel then reads request else 0
 part (Writes channel) request = if request.channel == channel then writes request else 0
 part (Hits channel) request = if request.channel == channel then hits request else 0

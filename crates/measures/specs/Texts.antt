@@ -8,11 +8,9 @@
 --     RefusesNone count old new      no memory is refused for so many bytes where there is room for them
 --     KeepsRoom count old new      what room there was beyond them is still there
 --     GoesOnWithRoom count old new      both
---     IsText wanted text      a `String` has this text
 --     flush_right width words      words with blanks before them, up to a width
-use Rattle.std.specs.Prelude.{◌≡◌, ◌+◌, ◌-◌, ◌≤◌, ⊤, false, ℕ, List, ◌++◌, length, codes, Option, IfSome, String, string_bytes, string_len, string_capacity}
+use Rattle.std.specs.Prelude.{◌≡◌, ◌+◌, ◌-◌, ◌≤◌, ⊤, false, ℕ, List, ◌++◌, length, codes, Option, IfSome, string_bytes, string_len, string_capacity}
 use Rattle.std.specs.List.{repeat}
-use Rattle.std.specs.declared.alloc.Global.{Global}
 use Rattle.measures.specs.declared.text_builder.TextBuilder.{TextBuilder}
 
 -- a text of some kind stands behind what was there, and no memory was refused before
@@ -58,10 +56,6 @@ KeepsRoom count old new = (more : ℕ) → HasRoom (count + more) old → HasRoo
 -- there was beyond that is still there.
 abbrev pub GoesOnWithRoom : ℕ → TextBuilder → TextBuilder → Type 0
 GoesOnWithRoom count old new = RefusesNone count old new × KeepsRoom count old new
-
--- a `String` has this text
-abbrev pub IsText : List ℕ → String Global → Type 0
-IsText wanted text = string_bytes text ≡ wanted
 
 -- words with blanks before them where they are shorter than a width
 abbrev pub flush_right : ℕ → List ℕ → List ℕ

@@ -111,7 +111,7 @@ fn least_power(form: NumberForm, halves: u128) -> Option<u32>
     (0..GREATEST_POWER).find(move |power| fits(form, *power, halves))
 }
 
-// That power of ten, or the greatest one.
+// The least power of ten at which the last digit of a number can be, or the greatest power where there is none.
 #[tactic(auto, unfolding(crate::specs::Number::power_of))]
 fn power_of(form: NumberForm, halves: u128) -> u32
     ensures place { result ≡ power_of form halves }

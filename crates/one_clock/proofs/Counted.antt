@@ -6,14 +6,13 @@ use Rattle.std.proofs.lemmas.Bool.{le-leb, lt-leb}
 use Rattle.std.proofs.lemmas.List.Folds.{length-prefix_len}
 use Rattle.std.proofs.lemmas.List.Sums.{prefix_len_is, sum_by_more, sum_by-append}
 use Rattle.std.proofs.lemmas.List.FromFn.{length-range_with_len, get_or-range_with_len}
-use Rattle.sim_base.specs.Counts.{is_read, is_write, is_unissued_after, issue_cycle, wait_of, replied_entry}
+use Rattle.sim_base.specs.Counts.{is_read, is_write, is_unissued_after, issue_cycle, wait_of, replied_entry, one_if}
 use Rattle.sim_base.specs.History.{below, issued_before}
 use Rattle.sim_base.specs.declared.history.CoreStep.{CoreStep}
 use Rattle.sim_base.specs.declared.message.Access.TheVariants as access
 use Rattle.sim_base.specs.declared.message.Message.{Message}
 use Rattle.sim_base.specs.declared.trace.Entry.{Entry}
 use Rattle.sim_base.proofs.Lists.{take_more, slice_get-drop}
-use Rattle.statistics.specs.Counts.{one_if}
 use Rattle.statistics.specs.Cores.{waited}
 use Rattle.statistics.proofs.Lists.{count_below_more}
 use Rattle.statistics.proofs.Replies.{issued_before-take-later}

@@ -9,8 +9,8 @@ use Rattle.sim_base.specs.Final.{due_left, banks, queue_left}
 use Rattle.sim_base.specs.History.{below, steps_of_channel, issued_commands, inbox}
 use Rattle.sim_base.specs.Machine.{run}
 use Rattle.sim_base.specs.Scheduling.{due}
-use Rattle.sim_base.proofs.Spans.{length-run}
-use Rattle.statistics.specs.Runs.{row_of_bank, open_rows_left, channel_last, last_of_channel}
+use Rattle.sim_base.proofs.Spans.{length_run}
+use Rattle.statistics.specs.Runs.{open_row_of_bank, open_rows_left, channel_last, last_of_channel}
 use Rattle.statistics.specs.Values.{LastChannel}
 use Rattle.statistics.proofs.Replies.{length-steps_of_channel}
 use Rattle.plain_steps.specs.Plain.{ChannelView, channel_view, queue_of}
@@ -20,14 +20,14 @@ pub channel_left_is : (s : Config) (traces : List (List Entry)) (n channel : ℕ
     → last_of_channel s traces (run s traces n) channel
     ≡ record {
       due = map (λ rank. due s rank view.commands n) (below s.ranks);
-      open_rows = filter_map (row_of_bank view.commands) (banks s);
+      open_rows = filter_map (open_row_of_bank view.commands) (banks s);
       queue = queue_of view.pending n;
     }
 unfolding last_of_channel channel_last due_left open_rows_left queue_left
 channel_left_is s traces n channel view e =
     let make : ℕ → ChannelView → LastChannel = λ i v. record {
       due = map (λ rank. due s rank v.commands i) (below s.ranks);
-      open_rows = filter_map (row_of_bank v.commands) (banks s);
+      open_rows = filter_map (open_row_of_bank v.commands) (banks s);
       queue = queue_of v.pending i;
     } in
     let past_steps = steps_of_channel channel (run s traces n) in
@@ -35,9 +35,9 @@ channel_left_is s traces n channel view e =
     let mail = inbox s traces (run s traces n) (Channel channel) in
     let with_queue : List Request → LastChannel = λ q. record {
       due = map (λ rank. due s rank h (length past_steps)) (below s.ranks);
-      open_rows = filter_map (row_of_bank h) (banks s);
+      open_rows = filter_map (open_row_of_bank h) (banks s);
       queue = q;
     } in
     ap with_queue (waiting_is h mail (length past_steps))
-    ∙ ap (λ i. make i (channel_view s traces (run s traces n) channel)) (length-steps_of_channel channel (run s traces n) ∙ length-run s traces n)
+    ∙ ap (λ i. make i (channel_view s traces (run s traces n) channel)) (length-steps_of_channel channel (run s traces n) ∙ length_run s traces n)
     ∙ ap (make n) (sym e)

@@ -13,7 +13,7 @@ use Rattle.sim_base.specs.History.{trace_of, steps_of_core, steps_of_channel, is
 use Rattle.sim_base.specs.Machine.{next_command, run}
 use Rattle.sim_base.specs.Scheduling.{lowest_due, drains, choice}
 use Rattle.sim_base.proofs.Arrived.{arrived}
-use Rattle.sim_base.proofs.Spans.{length-run}
+use Rattle.sim_base.proofs.Spans.{length_run}
 use Rattle.statistics.specs.declared.channels.ChannelStats.{ChannelStats}
 use Rattle.statistics.specs.declared.cores.CoreStats.{CoreStats}
 use Rattle.statistics.specs.Channels.{draining_of, channel_stats, channel_cycle_with, channel_cycle, channel_none, channel_joined, ChannelFits}
@@ -114,7 +114,7 @@ core_stats_fit s traces n core view step counts more l e f g h early short few =
     let past_steps = steps_of_core core (run s traces (suc n)) in
     let mail = inbox s traces (run s traces n) (Core core) in
     let then = inbox s traces (run s traces (suc n)) (Core core) in
-    let len : length past_steps ≡ n + 1 = length-steps_of_core core (run s traces (suc n)) ∙ length-run s traces (suc n) ∙ sym (add-one n) in
+    let len : length past_steps ≡ n + 1 = length-steps_of_core core (run s traces (suc n)) ∙ length_run s traces (suc n) ∙ sym (add-one n) in
     let same : replies past_steps then ≡ replies past_steps mail = replies-same past_steps then mail (subst (λ i. arrived then i ≡ arrived mail i) (sym len) (inbox-next s traces n (Core core))) in
     let kept : length view.inbox ≡ length mail = ap (λ (v : CoreView). length v.inbox) e in
     let keeps = KeepsToTrace-run s traces core l (suc n) in
@@ -138,7 +138,7 @@ cycle_is s traces n channel =
     let mail = inbox s traces history (Channel channel) in
     let view = channel_view s traces history channel in
     let o = choice s channel past_steps mail in
-    let past = length-run s traces n in
+    let past = length_run s traces n in
     let len : length past_steps ≡ n = length-steps_of_channel channel history ∙ past in
     ap (λ i. channel_cycle_with s view.commands (length (queue_of view.pending (i + 1))) (is_some (lowest_due s view.commands i)) (drains s channel past_steps mail (length history)) o) (sym len)
     ∙ ap (λ i. channel_cycle_with s view.commands (length (queue_of view.pending (length past_steps + 1))) (is_some (lowest_due s view.commands (length past_steps))) (drains s channel past_steps mail i) o) (past ∙ sym len)
@@ -176,7 +176,7 @@ unfolding stats_of_channel channel_stats
 channel_stats_fit s traces n channel view step counts more l e f g h early before now =
     let past_steps = steps_of_channel channel (run s traces (n + 1)) in
     let mail = inbox s traces (run s traces (n + 1)) (Channel channel) in
-    let len : length past_steps ≡ n + 1 = length-steps_of_channel channel (run s traces (n + 1)) ∙ length-run s traces (n + 1) in
+    let len : length past_steps ≡ n + 1 = length-steps_of_channel channel (run s traces (n + 1)) ∙ length_run s traces (n + 1) in
     let joined = channel_stats_next s traces n channel view step counts more l e f g h in
     let most : max counts.queued_max more.queued_max ≡ queued_max channel past_steps mail = ap (λ (c : ChannelStats). c.queued_max) joined in
     subst ChannelFits (sym joined) (channel_stats-fit s channel past_steps mail (omega arith) (omega arith))

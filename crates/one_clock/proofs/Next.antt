@@ -33,7 +33,7 @@ use Rattle.sim_base.proofs.Arrived.{put, puts, by_age-puts, fold-puts}
 use Rattle.sim_base.proofs.Ordered.{filter-puts, filter-by_age}
 use Rattle.sim_base.proofs.Grows.{core-grows, inbox-grows, by_age-filter-grows, has_channels}
 use Rattle.sim_base.proofs.Same.{drains-same}
-use Rattle.sim_base.proofs.Spans.{length-run, inbox-sorted, step_of_core-next, step_of_channel-next, inbox-run, inbox-stamped}
+use Rattle.sim_base.proofs.Spans.{length_run, inbox-sorted, step_of_core-next, step_of_channel-next, inbox-run, inbox-stamped}
 use Rattle.sim_base.proofs.Lists.{enumerate-append, filter-both, not-or, cons_option-none}
 use Rattle.plain_steps.specs.declared.scheduling.ChannelStep.{ChannelStep}
 use Rattle.one_clock.proofs.Units.{filter_map_below_more}
@@ -165,7 +165,7 @@ draining_next : (s : Config) (traces : List (List Entry)) (n k : ℕ) → k < s.
     ≡ drains s k (steps_of_channel k (run s traces n)) (inbox s traces (run s traces n) (Channel k)) n
 draining_next s traces n k l =
     let past_steps = steps_of_channel k (run s traces n) in
-    let e : length past_steps ≡ n = length-steps_of_channel k (run s traces n) ∙ length-run s traces n in
+    let e : length past_steps ≡ n = length-steps_of_channel k (run s traces n) ∙ length_run s traces n in
     let now = inbox s traces (run s traces n) (Channel k) in
     let then = inbox s traces (run s traces (n + 1)) (Channel k) in
     ap (λ x. drains_before s k x then (n + 1)) (steps_of_channel-next s traces n k l)
@@ -196,7 +196,7 @@ unfolding next_command
 channel_step_is s traces history k l = step_of_channel-next s traces history k l
 
 pub length_steps : (s : Config) (traces : List (List Entry)) (n c : ℕ) (view : CoreView) → view ≡ core_view s traces (run s traces n) c → length view.past_steps ≡ n
-length_steps s traces n c view e = ap (λ v. length v.past_steps) e ∙ length-steps_of_core c (run s traces n) ∙ length-run s traces n
+length_steps s traces n c view e = ap (λ v. length v.past_steps) e ∙ length-steps_of_core c (run s traces n) ∙ length_run s traces n
 
 -- the channel's part of the run, one cycle more
 pub channel_view_next : (s : Config) (traces : List (List Entry)) (n k : ℕ) → k < s.channels
@@ -215,7 +215,7 @@ channel_view_next s traces n k l =
     let o = next_command s traces history k in
     let mail = inbox s traces history (Channel k) in
     let fresh = filter (is_to s (Channel k)) (sends s traces history (next_step s traces history)) in
-    let e : length past_steps ≡ n = length-steps_of_channel k history ∙ length-run s traces n in
+    let e : length past_steps ≡ n = length-steps_of_channel k history ∙ length_run s traces n in
     let h = issued_commands k past_steps in
     let issued = h ++ option_to_list (issued_at k n o) in
     let commands_are : issued_commands k (steps_of_channel k (run s traces (n + 1))) ≡ issued =
@@ -228,8 +228,8 @@ channel_view_next s traces n k l =
     ∙ filter-puts (is_left issued) mail fresh (inbox-sorted s traces history (Channel k))
     ∙ ap (λ x. puts x (filter (is_left issued) fresh)) (left_after h k n o mail)
     ∙ sym (fold-puts _ (filter (is_left issued) fresh)) in
-    let f : length (run s traces (n + 1)) ≡ n + 1 = length-run s traces (n + 1) in
-    let g : length history ≡ n = length-run s traces n in
+    let f : length (run s traces (n + 1)) ≡ n + 1 = length_run s traces (n + 1) in
+    let g : length history ≡ n = length_run s traces n in
     view_same _ _ commands_are pending_is
     (ap (λ i. drains_before s k (steps_of_channel k (run s traces (n + 1))) (inbox s traces (run s traces (n + 1)) (Channel k)) i) f
     ∙ draining_next s traces n k l
@@ -265,14 +265,14 @@ flight_next s traces n =
     let history = run s traces n in
     let row = next_step s traces history in
     let fresh = filter (is_late (n + 1)) (sends s traces history row) in
-    ap (λ i. by_age (filter (is_late i) (messages s traces (run s traces (n + 1))))) (length-run s traces (n + 1))
+    ap (λ i. by_age (filter (is_late i) (messages s traces (run s traces (n + 1))))) (length_run s traces (n + 1))
     ∙ ap (λ x. by_age (filter (is_late (n + 1)) (messages s traces x))) (run_next s traces n)
     ∙ by_age-filter-grows s traces history row (is_late (n + 1))
     ∙ ap (λ x. fold insert_by_age (by_age x) fresh)
     (filter-both (is_late (n + 1)) (is_late n) (is_late (n + 1)) (late_twice n) (messages s traces history))
     ∙ ap (λ x. fold insert_by_age x fresh)
     (sym (filter-by_age (is_late (n + 1)) (filter (is_late n) (messages s traces history)))
-    ∙ ap (λ i. filter (is_late (n + 1)) (by_age (filter (is_late i) (messages s traces history)))) (sym (length-run s traces n)))
+    ∙ ap (λ i. filter (is_late (n + 1)) (by_age (filter (is_late i) (messages s traces history)))) (sym (length_run s traces n)))
 
 step_same : (a b : ChannelStep) → a.command ≡ b.command → a.draining ≡ b.draining → a ≡ b
 step_same a b e f =
@@ -291,13 +291,13 @@ step_is s traces n k view step e f g =
     let d : step.draining ≡ (channel_step_of s traces history k).draining =
     f
     ∙ ap (λ (v : ChannelView). drains_with s v.draining (count_by (λ r. is_access access.Write r.access) (queue_of v.pending (n + 1)))) e
-    ∙ ap (λ i. drains_with s kept.draining (count_by (λ r. is_access access.Write r.access) (queue_of kept.pending (i + 1)))) (sym (length-run s traces n))
+    ∙ ap (λ i. drains_with s kept.draining (count_by (λ r. is_access access.Write r.access) (queue_of kept.pending (i + 1)))) (sym (length_run s traces n))
     ∙ sym (step_draining s traces history k) in
     step_same step (channel_step_of s traces history k)
     (g
     ∙ ap (λ (v : ChannelView). choice_between s v.commands n (candidates s step.draining (queue_of v.pending (n + 1))) (lowest_due s v.commands n)) e
     ∙ ap (λ b. choice_between s kept.commands n (candidates s b (queue_of kept.pending (n + 1))) (lowest_due s kept.commands n)) d
-    ∙ ap (λ i. choice_between s kept.commands i (candidates s (channel_step_of s traces history k).draining (queue_of kept.pending (i + 1))) (lowest_due s kept.commands i)) (sym (length-run s traces n))
+    ∙ ap (λ i. choice_between s kept.commands i (candidates s (channel_step_of s traces history k).draining (queue_of kept.pending (i + 1))) (lowest_due s kept.commands i)) (sym (length_run s traces n))
     ∙ sym (step_command s traces history k))
     d
 
@@ -323,7 +323,7 @@ unfolding next_step
 issued_all s traces n =
     let history = run s traces n in
     ap (λ l. commands history ++ l) (sym (numbered (λ i o. issued_at i n o) (next_command s traces history) 0 s.channels))
-    ∙ ap (λ i. commands history ++ filter_map (λ (e : ℕ × Option Command). issued_at e.0 i e.1) (enumerate_from 0 (map (next_command s traces history) (below s.channels)))) (sym (length-run s traces n))
+    ∙ ap (λ i. commands history ++ filter_map (λ (e : ℕ × Option Command). issued_at e.0 i e.1) (enumerate_from 0 (map (next_command s traces history) (below s.channels)))) (sym (length_run s traces n))
     ∙ sym (commands-push history (next_step s traces history))
     ∙ ap commands (sym (run_next s traces n))
 
@@ -410,7 +410,3 @@ delivered_is s traces history =
 pub step_alone : (s : Config) (traces : List (List Entry)) (n core : ℕ) → (core_step_of s traces (run s traces n) core).0 ≡ next_core_step s traces (run s traces n) core
 unfolding core_step_of next_core_step
 step_alone s traces n core = refl
-
--- as many steps as cycles (by a name that a tactic can be given)
-pub length_run : (s : Config) (traces : List (List Entry)) (n : ℕ) → length (run s traces n) ≡ n
-length_run s traces n = length-run s traces n

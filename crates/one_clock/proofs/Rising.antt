@@ -4,10 +4,9 @@ use Rattle.std.proofs.lemmas.Bool.Decides.{nat_tests}
 use Rattle.sim_base.specs.declared.command.IssuedCommand.{IssuedCommand}
 use Rattle.sim_base.specs.declared.config.Config.{Config}
 use Rattle.sim_base.specs.declared.trace.Entry.{Entry}
-use Rattle.sim_base.specs.History.{commands}
+use Rattle.sim_base.specs.History.{commands, stands_before}
 use Rattle.sim_base.specs.Machine.{run}
 use Rattle.command_table.specs.Tables.{IsRising}
-use Rattle.laws.specs.Tables.{stands_before}
 use Rattle.laws.proofs.Tabled.{tables_are_ordered}
 
 -- no row of the table of a run is of an earlier cycle than one before it

@@ -12,7 +12,8 @@ use Rattle.plain_steps.specs.declared.scheduling.ChannelStep.{ChannelStep}
 -- the statistics of the cycle `now` of a channel that issued these commands before, has this many requests queued,
 -- and does this
 abbrev pub channel_counts : Config → List IssuedCommand → ℕ → ℕ → ChannelStep → ChannelStats
-channel_counts s history now queued step = channel_cycle_with s history queued (is_some (lowest_due s history now)) step.draining step.command
+channel_counts s history now queued step =
+    channel_cycle_with s history queued (is_some (lowest_due s history now)) step.draining step.command
 
 -- the statistics of a channel in no cycle: drained cycles are counted only where the configuration has a drain
 abbrev pub no_channel_counts : Config → ChannelStats

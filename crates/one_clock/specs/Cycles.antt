@@ -177,7 +177,8 @@ is_hit_in c row = is_hit (issued_commands row.channel (steps_of_channel row.chan
 
 -- the request of an entry, read or written, that a command serves
 abbrev pub request_for : RunCycle → IssuedCommand → Access → Source → ServedRequest
-request_for c row access source = served_of (arrival_in c row.channel) (is_hit_in c row) row.channel row.cycle access source
+request_for c row access source =
+    served_of (arrival_in c row.channel) (is_hit_in c row) row.channel row.cycle access source
 
 -- the request that a command serves, if it serves one
 abbrev pub request_of_row : RunCycle → IssuedCommand → Option ServedRequest

@@ -7,7 +7,6 @@
 --     ends_before c      whether the run ends before the cycle
 --     cycles_within c limit      how many cycles the run of this cycle has, which ends where it is over, or at a limit
 --     outcome_before tables c      what the run leaves, if it does
---     outcome_within tables s traces limit      what the run leaves, which ends where it is over, or at a limit
 use Rattle.std.specs.Prelude.{ℕ, Bool, ◌&&◌, List, length, map}
 use Rattle.std.specs.List.{list_all}
 use Rattle.sim_base.specs.History.{below}
@@ -17,7 +16,6 @@ use Rattle.sim_base.specs.Windows.{held}
 use Rattle.sim_base.specs.declared.command.IssuedCommand.{IssuedCommand}
 use Rattle.sim_base.specs.declared.config.Config.{Config}
 use Rattle.sim_base.specs.declared.message.Access.TheVariants as access
-use Rattle.sim_base.specs.declared.trace.Entry.{Entry}
 use Rattle.statistics.specs.declared.final_state.Credits.{Credits}
 use Rattle.plain_steps.specs.Plain.{CoreView}
 use Rattle.statistics.specs.Outcomes.{outcome_of}
@@ -77,8 +75,3 @@ cycles_within c limit = cycles_run c.config.now c.traces.now limit
 -- what the run leaves if it ends before the cycle
 abbrev pub outcome_before : Tables → RunCycle → RunOutcome
 outcome_before tables c = outcome_of tables c.config.now c.traces.now c.number
-
--- What the run leaves: it has as many cycles as the limit, or, where the configuration ends it drained, as many as it
--- takes until it is over.
-abbrev pub outcome_within : Tables → Config → List (List Entry) → ℕ → RunOutcome
-outcome_within tables s traces limit = outcome_of tables s traces (cycles_run s traces limit)

@@ -42,7 +42,8 @@ core_past_after past step requests arrivals =
 -- The messages whose requests are still to be served, by age, after a cycle with this command, if there is one: those
 -- that were pending, but for what it serves, and those of the arrivals that none of the commands so far serves.
 abbrev pub pending_after : Option Command → List Message → List IssuedCommand → List Message → List Message
-pending_after command pending commands arrivals = fold insert_by_age (filter (is_left_by command) pending) (filter (is_left commands) arrivals)
+pending_after command pending commands arrivals =
+    fold insert_by_age (filter (is_left_by command) pending) (filter (is_left commands) arrivals)
 
 -- a channel's past with one cycle more, in which it did this, and these messages were sent to it
 abbrev pub channel_past_after : ChannelView → ℕ → ℕ → ChannelStep → List Message → ChannelView

@@ -16,7 +16,8 @@ use Rattle.sim_base.specs.declared.trace.Stop.{Stop}
 
 -- what a core of the machine does in the cycle after a history, and why it stops
 unfoldable pub core_step_of : Config → List (List Entry) → List MachineStep → ℕ → CoreStep × Stop
-core_step_of s traces history core = step s core (trace_of traces core) (steps_of_core core history) (inbox s traces history (Core core))
+core_step_of s traces history core =
+    step s core (trace_of traces core) (steps_of_core core history) (inbox s traces history (Core core))
 
 -- an entry that reads memory, or one that writes it, where there may be none
 abbrev pub accesses : Access → Option Entry → Bool

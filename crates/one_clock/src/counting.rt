@@ -1,9 +1,8 @@
 //! What a cycle of one core and of one channel adds to their statistics.
 
 ghost use Rattle.std.specs.Prelude.{◌≡◌, ◌+◌, ◌<◌, ◌≤◌, ◌^◌, length, count_by, slice_get, IfOk};
-ghost use Rattle.sim_base.specs.Counts.{replied_entry, issue_cycle, wait_of, is_stop};
+ghost use Rattle.sim_base.specs.Counts.{replied_entry, issue_cycle, wait_of, is_stop, one_if};
 ghost use Rattle.sim_base.specs.History.{below, retired_before, issued_before};
-ghost use Rattle.statistics.specs.Counts.{one_if};
 ghost use Rattle.statistics.specs.Cores.{is_reply_in, replies_in, waited, core_cycle_with};
 ghost use Rattle.statistics.specs.Channels.{draining_of, issues, issues_hit};
 ghost use Rattle.one_clock.specs.Steps.{accesses};

@@ -2,7 +2,7 @@
 
 ghost use Rattle.std.specs.Prelude.{◌≡◌, filter_map, IfOk};
 ghost use Rattle.sim_base.specs.Final.{banks, banks_of_group, banks_of_rank};
-ghost use Rattle.statistics.specs.Runs.{row_of_bank};
+ghost use Rattle.statistics.specs.Runs.{open_row_of_bank};
 ghost use Rattle.one_clock.specs.Cycles.{core_before, channel_before, cores_before, channels_before};
 ghost use Rattle.one_clock.specs.Cycles.{core_left_before, channel_left_before, cores_left_before, channels_left_before};
 ghost use Rattle.one_clock.specs.Ends.{credits_kept, all_credits_kept, refreshes_due};
@@ -113,7 +113,7 @@ fn all_banks(alloc: Global, s: &Config) -> Result<Vec<BankId>, AllocError>
 }
 
 fn open_row_of(history: &[IssuedCommand], bank: BankId) -> Option<OpenRow>
-    ensures { result ≡ row_of_bank history.now bank }
+    ensures { result ≡ open_row_of_bank history.now bank }
 {
     match rules::row_of_bank(bank, history) {
         Some(row) => Some(OpenRow { bank, row }),
@@ -126,7 +126,7 @@ fn open_rows_of(
     history: &[IssuedCommand],
     banks: &[BankId],
 ) -> Result<Vec<OpenRow>, AllocError>
-    ensures { IfOk result (λ v. v.items ≡ filter_map (row_of_bank history.now) banks.now) }
+    ensures { IfOk result (λ v. v.items ≡ filter_map (open_row_of_bank history.now) banks.now) }
 {
     banks
         .iter()

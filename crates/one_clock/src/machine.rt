@@ -2,7 +2,7 @@
 
 ghost use Rattle.std.specs.Prelude.{◌≡◌, ◌<◌, ◌≤◌, ◌^◌, length, filter, IfOk, OnOk};
 ghost use Rattle.plain_steps.specs.Plain.{is_late};
-ghost use Rattle.statistics.specs.Outcomes.{if_asked};
+ghost use Rattle.statistics.specs.Outcomes.{if_asked, outcome_within};
 ghost use Rattle.command_table.specs.Tables.{IsRising};
 ghost use Rattle.one_clock.specs.Cycles.{core_before, core_after, cores_before, cores_after};
 ghost use Rattle.one_clock.specs.Cycles.{channel_before, channel_after, channels_before, channels_after};
@@ -12,7 +12,7 @@ ghost use Rattle.one_clock.specs.Cycles.{cores_left_before, channels_left_before
 ghost use Rattle.one_clock.specs.Ends.{is_core_retired_before, are_cores_retired_before};
 ghost use Rattle.one_clock.specs.Ends.{has_channel_served_before, have_channels_served_before};
 ghost use Rattle.one_clock.specs.Ends.{is_all_delivered_before, is_over_before, ends_before, cycles_within};
-ghost use Rattle.one_clock.specs.Ends.{outcome_before, outcome_within};
+ghost use Rattle.one_clock.specs.Ends.{outcome_before};
 ghost use Rattle.one_clock.specs.Held.{HoldsUpTo, HoldsBefore, HoldsAfter, IsCycleOf};
 
 use crate::run_cycle::RunCycle;
@@ -260,7 +260,7 @@ fn are_cores_retired(cycle: &RunCycle<'_>, cores: &[CorePast]) -> bool
     all
 }
 
-#[tactic(auto, unfolding(sim_base::specs::Machine::has_served), using(crate::proofs::Next::waiting_is, crate::proofs::Next::length_run))]
+#[tactic(auto, unfolding(sim_base::specs::Machine::has_served), using(crate::proofs::Next::waiting_is, sim_base::proofs::Spans::length_run))]
 fn has_channel_served(
     cycle: &RunCycle<'_>,
     channel: ChannelId,
@@ -412,7 +412,7 @@ impl PlainMachine {
     }
 
     /// What the run leaves if it ends before this cycle, where these tables are asked for.
-    #[tactic(auto, unfolding(statistics::specs::Outcomes::outcome_of, statistics::specs::Outcomes::outcome_after, statistics::specs::Runs::stats_of, statistics::specs::Runs::final_of), using(crate::proofs::Next::length_run))]
+    #[tactic(auto, unfolding(statistics::specs::Outcomes::outcome_of, statistics::specs::Outcomes::outcome_after, statistics::specs::Runs::stats_of, statistics::specs::Runs::final_of), using(sim_base::proofs::Spans::length_run))]
     fn outcome(self, cycle: &RunCycle<'_>, tables: Tables) -> Result<Outcome, AllocError>
         requires machine { HoldsBefore cycle.now self }
         ensures { IfOk result (λ outcome. outcome ≡ outcome_before tables cycle.now) }

@@ -27,7 +27,7 @@ pub fn trace_of_core(traces: &[Trace], core: CoreId) -> &Trace
 }
 
 /// The requests that a core sends in a cycle in which it does this.
-#[tactic(auto, unfolding(sim_base::specs::Sends::core_sends), using(crate::proofs::Next::core_step_is, crate::proofs::Next::length_run))]
+#[tactic(auto, unfolding(sim_base::specs::Sends::core_sends), using(crate::proofs::Next::core_step_is, sim_base::proofs::Spans::length_run))]
 pub fn requests_of_core(
     cycle: &RunCycle<'_>,
     core: CoreId,

@@ -36,7 +36,8 @@ rate form dividend divisor units = quotient form dividend (min divisor (2 ^ 64 -
 
 -- the data that a channel moved in so many cycles, in hundredths of a GB/s
 abbrev pub data_rate : ℕ → ChannelStats → ℕ → Cell
-data_rate cycles channel khz = rate Hundredths (min ((channel.rd + channel.wr) * khz) (2 ^ 128 - 1)) (15625 * cycles) 100
+data_rate cycles channel khz =
+    rate Hundredths (min ((channel.rd + channel.wr) * khz) (2 ^ 128 - 1)) (15625 * cycles) 100
 
 -- a quotient of cycles, in tenths of a ns
 abbrev pub time : ℕ → ℕ → ℕ → Cell

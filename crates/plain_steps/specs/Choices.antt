@@ -45,9 +45,11 @@ choice_in c = choice_between c.config.now c.history.now c.number
 -- whether the channel drains its writes in the cycle, by whether it did in the one before and by the writes that are
 -- queued
 abbrev pub drains_in : ChannelCycle → Bool → List Message → Bool
-drains_in c drained pending = drains_with c.config.now drained (count_by (λ r. is_access access.Write r.access) (queue_of pending (c.number + 1)))
+drains_in c drained pending =
+    drains_with c.config.now drained (count_by (λ r. is_access access.Write r.access) (queue_of pending (c.number + 1)))
 
 -- the command that the channel issues in the cycle, where it drains its writes or not, and these messages are pending
 abbrev pub command_in : ChannelCycle → Bool → List Message → Option Command
 command_in c draining pending =
-    choice_in c (candidates c.config.now draining (queue_of pending (c.number + 1))) (lowest_due c.config.now c.history.now c.number)
+    choice_in c (candidates c.config.now draining (queue_of pending (c.number + 1)))
+    (lowest_due c.config.now c.history.now c.number)

@@ -29,7 +29,8 @@ request_of_entry s core cycle trace number = option_and_then (request_of s core 
 
 -- the requests among entries that a core issues
 abbrev pub requests_issued : Config → ℕ → List Entry → IssuedEntries → List Message
-requests_issued s core trace issued = requests_between s core trace issued.cycle issued.first (issued.first + issued.count)
+requests_issued s core trace issued =
+    requests_between s core trace issued.cycle issued.first (issued.first + issued.count)
 
 -- the credits that a core holds for a channel, to read or to write, those counted that arrived before a cycle
 abbrev pub credits_held : Config → CoreMail → ℕ → Access → ℕ → ℕ
@@ -45,11 +46,15 @@ lacks_credit_for i = lacks_credit i.config.now i.mail.now.core i.mail.now.inbox.
 
 -- why the core issues no further entry after m, if anything stops it
 abbrev pub cause_to_stop : IssueStage → ℕ → Option Stop
-cause_to_stop i = stop_after i.config.now i.mail.now.core i.trace.now i.mail.now.inbox.now i.mail.now.sent.now i.cycle i.first i.retired_by_end
+cause_to_stop i =
+    stop_after i.config.now i.mail.now.core i.trace.now i.mail.now.inbox.now i.mail.now.sent.now i.cycle i.first
+    i.retired_by_end
 
 -- whether something stops the core after m entries
 abbrev pub stops_after : IssueStage → ℕ → Bool
-stops_after i = has_cause i.config.now i.mail.now.core i.trace.now i.mail.now.inbox.now i.mail.now.sent.now i.cycle i.first i.retired_by_end
+stops_after i =
+    has_cause i.config.now i.mail.now.core i.trace.now i.mail.now.inbox.now i.mail.now.sent.now i.cycle i.first
+    i.retired_by_end
 
 -- the least number of entries, up to the width, after which something stops the core
 abbrev pub first_cause_to_stop : IssueStage → Option ℕ
@@ -57,7 +62,9 @@ first_cause_to_stop i = find (stops_after i) (below (i.config.now.width + 1))
 
 -- how many entries the core issues
 abbrev pub issue_count_of : IssueStage → ℕ
-issue_count_of i = first_stop i.config.now i.mail.now.core i.trace.now i.mail.now.inbox.now i.mail.now.sent.now i.cycle i.first i.retired_by_end
+issue_count_of i =
+    first_stop i.config.now i.mail.now.core i.trace.now i.mail.now.inbox.now i.mail.now.sent.now i.cycle i.first
+    i.retired_by_end
 
 -- the messages that a core sent are those of its steps
 abbrev pub HasSent : Config → List Entry → List CoreStep → CoreMail → Type 0

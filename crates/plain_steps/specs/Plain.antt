@@ -89,4 +89,5 @@ is_late now m = not (nat_lt m.arrival now)
 
 -- an ACT to a rank, less than tFAW cycles before this one: it counts in the four-activate window (JESD79-4, tFAW)
 abbrev pub counts_in_window : Timing → ℕ → ℕ → IssuedCommand → Bool
-counts_in_window t of_rank now i = is_kind (kind_of i.command) kind.Act && (rank_of i.command == of_rank) && nat_lt now (i.cycle + t.n_faw)
+counts_in_window t of_rank now i =
+    is_kind (kind_of i.command) kind.Act && (rank_of i.command == of_rank) && nat_lt now (i.cycle + t.n_faw)

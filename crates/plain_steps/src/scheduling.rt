@@ -12,7 +12,7 @@ ghost use Rattle.plain_steps.specs.Choices.{drains_in, command_in};
 
 use crate::channel_cycle::ChannelCycle;
 use crate::rules;
-use sim_base::command::{Command, IssuedCommand, Kind, Source};
+use sim_base::command::{Command, IssuedCommand, Source};
 use sim_base::config::Config;
 use sim_base::message::{Access, Message, Payload, Request};
 use sim_base::place::{BankId, Place, is_row};
@@ -207,18 +207,12 @@ fn is_command_withheld(history: &[IssuedCommand], requests: &[Request], command:
     }
 }
 
-fn is_refresh_of(rank: u32, command: Command) -> bool
-    ensures { result ≡ refreshes rank command }
-{
-    command.kind().is_kind(Kind::Ref) && command.rank() == rank
-}
-
 fn refresh_count(rank: u32, history: &[IssuedCommand]) -> usize
     ensures { result ≡ count_by (λ i. refreshes rank i.command) history.now }
 {
     history
         .iter()
-        .filter(move |i| is_refresh_of(rank, i.command))
+        .filter(move |i| i.command.is_refresh_of(rank))
         .count()
 }
 

@@ -5,7 +5,7 @@ use Rattle.sim_base.specs.declared.fault.Fault.{Fault}
 use Rattle.refusal.specs.declared.refusal.Refusal.{Refusal}
 use Rattle.refusal.specs.declared.refusal.Refusal.TheVariants.{Kept}
 use Rattle.refusal.specs.declared.warning.LargePage.{LargePage}
-use Rattle.program.specs.Done.{done_with, quietly_done, run_done, warned_done}
+use Rattle.program.specs.Done.{done_with, done_unwarned, run_done, warned_done}
 use Rattle.program.specs.declared.done.Done.{Done}
 use Rattle.program.specs.declared.status.ExitStatus.TheVariants as status
 
@@ -20,21 +20,21 @@ err_each Q (Err e) q = q e
 
 -- ---- an answer that warns of nothing
 
-pub quiet_ok : {P : Type 0} (Q : Done → Type 0) (answer : Result (Unit {0}) Fault) → (P → Q (done_with None)) → OnOk answer P → IfOk (quietly_done answer) Q
-quiet_ok Q (Ok x) gives h = gives h
-quiet_ok Q (Err e) gives h = tt
+pub unwarned_ok : {P : Type 0} (Q : Done → Type 0) (answer : Result (Unit {0}) Fault) → (P → Q (done_with None)) → OnOk answer P → IfOk (done_unwarned answer) Q
+unwarned_ok Q (Ok x) gives h = gives h
+unwarned_ok Q (Err e) gives h = tt
 
-pub quiet_each : (Q : Done → Type 0) (answer : Result (Unit {0}) Fault) → Q (done_with None) → IfOk (quietly_done answer) Q
-quiet_each Q (Ok x) q = q
-quiet_each Q (Err e) q = tt
+pub unwarned_each : (Q : Done → Type 0) (answer : Result (Unit {0}) Fault) → Q (done_with None) → IfOk (done_unwarned answer) Q
+unwarned_each Q (Ok x) q = q
+unwarned_each Q (Err e) q = tt
 
-pub quiet_err : {P : Fault → Type 0} (Q : Refusal → Type 0) (answer : Result (Unit {0}) Fault) → ((e : Fault) → P e → Q (Kept e)) → IfErr answer P → IfErr (quietly_done answer) Q
-quiet_err Q (Ok x) gives h = tt
-quiet_err Q (Err e) gives h = gives e h
+pub unwarned_err : {P : Fault → Type 0} (Q : Refusal → Type 0) (answer : Result (Unit {0}) Fault) → ((e : Fault) → P e → Q (Kept e)) → IfErr answer P → IfErr (done_unwarned answer) Q
+unwarned_err Q (Ok x) gives h = tt
+unwarned_err Q (Err e) gives h = gives e h
 
-pub quiet_refused : (Q : Refusal → Type 0) (answer : Result (Unit {0}) Fault) → ((e : Fault) → Q (Kept e)) → IfErr (quietly_done answer) Q
-quiet_refused Q (Ok x) q = tt
-quiet_refused Q (Err e) q = q e
+pub unwarned_refused : (Q : Refusal → Type 0) (answer : Result (Unit {0}) Fault) → ((e : Fault) → Q (Kept e)) → IfErr (done_unwarned answer) Q
+unwarned_refused Q (Ok x) q = tt
+unwarned_refused Q (Err e) q = q e
 
 -- ---- a run
 

@@ -1,6 +1,5 @@
 -- Why a run is refused, from the refusals of its steps.
-use Rattle.std.proofs.Common.{◌≡◌, inl, inr, ℕ, List, [], ◌∷◌, length, map, Some, Result, Ok, Err, sym, ap₂, ◌∙◌, arith}
-use Rattle.std.specs.Prelude.{OnOk}
+use Rattle.std.proofs.Common.{◌≡◌, inl, inr, ℕ, List, [], ◌∷◌, length, map, Some, sym, ap₂, ◌∙◌, arith}
 use Rattle.std.proofs.lemmas.List.{length-map}
 use Rattle.sim_base.specs.declared.fault.Fault.{Fault}
 use Rattle.whole_files.specs.Files.{Held, SameFiles}
@@ -36,8 +35,3 @@ pub run_refused : (tells : Type 0) (held : Held) (paths : List (List ℕ)) (docu
     → IsAnswerFault tells held paths (IsRunFault cycles workers) (IsRightRun cycles workers) fault
 run_refused tells held paths document texts cycles workers fault read (inl refused) = inl (inr (record { texts = document ∷ texts; read = read; fault_is = refused }))
 run_refused tells held paths document texts cycles workers fault read (inr (write, right)) = inr (write, record { texts = document ∷ texts; read = read; right = right })
-
--- what follows from two facts of success
-pub both_on_ok : {T E : Type 0} {P Q R : Type 0} (r : Result T E) → (P → Q → R) → OnOk r P → OnOk r Q → OnOk r R
-both_on_ok (Ok x) f p q = f p q
-both_on_ok (Err e) f p q = tt

@@ -5,7 +5,7 @@
 --     IsRunDone config cycles workers tables out traces old new before after      its tables are in the folder
 --     IsUnfinished refusal config cycles workers tables out traces has_folder old new before after      what is left of a run that is refused
 --     IsAnswer ask done old new      what is asked has been done
---     IsQuiet ask warning      nothing is warned of but pages
+--     IsUnwarned ask warning      nothing is warned of but pages
 --     IsLeft refusal ask old new      what is left where it has not been done
 --     IsAnswered words status old new has_refused before after      what the words of a command line ask for has been done, and its warning told
 --     IsRefusedBy refusal words old new, IsRefused words old new      what is left where it has not been done
@@ -87,9 +87,11 @@ pub record IsRunLeft (refusal : Refusal) (config : List ℕ) (cycles workers : �
 -- What is left of a run that is refused: it had no outcome, as where its folder was not there, or memory was refused,
 -- and no file has changed and none was opened to be written; or its folder was there, it had an outcome, and is left
 -- undone after that.
-abbrev pub IsUnfinished : Refusal → List ℕ → ℕ → ℕ → Tables → List ℕ → List (List ℕ) → Bool → Held → Held → List (List ℕ) → List (List ℕ) → Type 0
+abbrev pub IsUnfinished : Refusal → List ℕ → ℕ → ℕ → Tables → List ℕ → List (List ℕ) → Bool → Held → Held
+    → List (List ℕ) → List (List ℕ) → Type 0
 IsUnfinished refusal config cycles workers tables out traces has_folder old new before after =
-    LeavesAll refusal old new before after ⊎ IsRunLeft refusal config cycles workers tables out traces has_folder old new
+    LeavesAll refusal old new before after
+    ⊎ IsRunLeft refusal config cycles workers tables out traces has_folder old new
 
 -- a run has been done: its folder was there before it began, it prints nothing, and opens just the tables that are
 -- asked for
@@ -159,12 +161,16 @@ pub record IsHelpAnswer (text : List ℕ) (status : ExitStatus) (old new : Seen)
 -- what is asked has been done
 abbrev pub IsAnswer : Ask → Done → Seen → Seen → Type 0
 IsAnswer (Run run) done old new =
-    IsRunAnswer run.config.now run.cycles run.workers run.tables run.out.now (map (λ t. t.now) run.traces.items) done.status old new
+    IsRunAnswer run.config.now run.cycles run.workers run.tables run.out.now (map (λ t. t.now) run.traces.items)
+    done.status old new
 IsAnswer (Check config commands) done old new = IsCheckAnswer config.now commands.now done.status old new
 IsAnswer (Map config address) done old new = IsMapAnswer config.now address done.status old new
-IsAnswer (Show show) done old new = IsShowAnswer show.dir.now (option_map (λ c. c.now) show.config) (options_of show) done.status old new
-IsAnswer (ShowBanks show) done old new = IsBanksAnswer show.dir.now (option_map (λ c. c.now) show.config) (options_of show) done.status old new
-IsAnswer (Page page) done old new = IsPageAnswer page.dir.now page.file.now (option_map (λ c. c.now) page.config) done old new
+IsAnswer (Show show) done old new =
+    IsShowAnswer show.dir.now (option_map (λ c. c.now) show.config) (options_of show) done.status old new
+IsAnswer (ShowBanks show) done old new =
+    IsBanksAnswer show.dir.now (option_map (λ c. c.now) show.config) (options_of show) done.status old new
+IsAnswer (Page page) done old new =
+    IsPageAnswer page.dir.now page.file.now (option_map (λ c. c.now) page.config) done old new
 IsAnswer (Compare dirs csv) done old new = IsCompareAnswer (map (λ d. d.now) dirs.items) csv done.status old new
 IsAnswer (Help text) done old new = IsHelpAnswer (string_bytes text) done.status old new
 IsAnswer (Version text) done old new = IsHelpAnswer (string_bytes text) done.status old new
@@ -175,15 +181,16 @@ IsForPage (Page page) = ⊤
 IsForPage _ = ⊥
 
 -- nothing is warned of but pages
-abbrev pub IsQuiet : Ask → Option LargePage → Type 0
-IsQuiet (Page page) warning = ⊤
-IsQuiet _ warning = warning ≡ None
+abbrev pub IsUnwarned : Ask → Option LargePage → Type 0
+IsUnwarned (Page page) warning = ⊤
+IsUnwarned _ warning = warning ≡ None
 
 -- what is left where it has not been done: nothing was touched, or a run is left undone after its outcome was there, or
 -- a page
 abbrev pub IsLeft : Refusal → Ask → Seen → Seen → Type 0
 IsLeft refusal (Run run) old new =
-    IsUnfinished refusal run.config.now run.cycles run.workers run.tables run.out.now (map (λ t. t.now) run.traces.items)
+    IsUnfinished refusal run.config.now run.cycles run.workers run.tables run.out.now
+    (map (λ t. t.now) run.traces.items)
     (old.has_folder run.out.now) old.held new.held old.opened new.opened
 IsLeft refusal (Page page) old new = IsPageLeft refusal page.file.now old new
 IsLeft refusal _ old new = LeavesAll refusal old.held new.held old.opened new.opened

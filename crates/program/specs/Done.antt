@@ -1,6 +1,6 @@
 -- What the program has done, by the answer that it gave.
 --     done_with warning      done, with this to warn of, if there is something
---     quietly_done answer, run_done run, warned_done page      done, or why it is refused
+--     done_unwarned answer, run_done run, warned_done page      done, or why it is refused
 use Rattle.std.specs.Prelude.{Option, None, Result, Ok, Err}
 use Rattle.sim_base.specs.declared.fault.Fault.{Fault}
 use Rattle.refusal.specs.declared.refusal.Refusal.{Refusal}
@@ -14,9 +14,9 @@ abbrev pub done_with : Option LargePage → Done
 done_with warning = record { status = status.Done; warning = warning }
 
 -- an answer that warns of nothing
-abbrev pub quietly_done : Result (Unit {0}) Fault → Result Done Refusal
-quietly_done (Ok _) = Ok (done_with None)
-quietly_done (Err fault) = Err (Kept fault)
+abbrev pub done_unwarned : Result (Unit {0}) Fault → Result Done Refusal
+done_unwarned (Ok _) = Ok (done_with None)
+done_unwarned (Err fault) = Err (Kept fault)
 
 -- a run, which keeps its own refusal
 abbrev pub run_done : Result (Unit {0}) Refusal → Result Done Refusal

@@ -33,9 +33,11 @@ named (Check config commands) = config.now ∷ commands.now ∷ []
 named (Map config address) = config.now ∷ []
 named (Show show) = with_config (option_map (λ c. c.now) show.config) (path_in show.dir.now stats_name ∷ [])
 named (ShowBanks show) =
-    with_config (option_map (λ c. c.now) show.config) (path_in show.dir.now stats_name ∷ path_in show.dir.now commands_name ∷ [])
+    with_config (option_map (λ c. c.now) show.config)
+    (path_in show.dir.now stats_name ∷ path_in show.dir.now commands_name ∷ [])
 named (Page page) =
-    with_config (option_map (λ c. c.now) page.config) (path_in page.dir.now stats_name ∷ path_in page.dir.now commands_name ∷ [])
+    with_config (option_map (λ c. c.now) page.config)
+    (path_in page.dir.now stats_name ∷ path_in page.dir.now commands_name ∷ [])
 named (Compare dirs csv) = map (λ d. stats_path d.now) dirs.items
 named (Help text) = []
 named (Version text) = []
@@ -83,7 +85,8 @@ IsRight tells held (Version text) = λ _. ⊤
 
 -- why what is asked is refused
 abbrev pub IsAskFault : Type 0 → Held → Ask → Fault → Type 0
-IsAskFault tells held ask fault = IsAnswerFault tells held (named ask) (IsFaultIn tells held ask) (IsRight tells held ask) fault
+IsAskFault tells held ask fault =
+    IsAnswerFault tells held (named ask) (IsFaultIn tells held ask) (IsRight tells held ask) fault
 
 -- the words ask for something, and that is refused with this fault
 pub record IsFaultOfAsk (tells : Type 0) (held : Held) (words : List (List ℕ)) (fault : Fault) : Type 0 where

@@ -3,14 +3,14 @@
 -- files hold is claimed where the set tells.
 --     sight set stream files output      what can be seen of the files and of the stream of answers
 --     IsSeen set stream old new before after is      what is so of what can be seen before and after a call
---     words_of words      the words of a command line
+--     texts_of words      the words of a command line
 --     traces_of asked, run_paths asked      the files of a run's traces, and all that it reads
 --     ReadsInput, ReadsOutcome set files asked ..      the input of a run, and its outcome
 --     CanRun set files asked, RefusesRun set files asked fault      its files can be read and are right, and why it is refused
 --     EndsRun set old new asked, LeavesRun set old new asked refusal      what a run has done, and what is left of one that is refused
 --     LeavesFiles set old new refusal      a refusal leaves all files as they were
 --     Answers, Tells stream before after ..      what was asked has been done, or is refused, and that was told on a stream of errors
-use Rattle.std.specs.Prelude.{◌≡◌, ◌⊎◌, ℕ, ◌≤◌, List, ◌∷◌, map, slice_index_or, Option, Some, None, Vec}
+use Rattle.std.specs.Prelude.{◌≡◌, ◌⊎◌, ℕ, ◌≤◌, List, ◌∷◌, map, Option, Some, None, Vec}
 use Rattle.std.specs.Borrow.{Bor}
 use Rattle.std.specs.declared.alloc.Global.{Global}
 use Rattle.std.specs.declared.io.Write.{Ghosts as Stream}
@@ -34,16 +34,13 @@ use Rattle.program.specs.Told.{IsTold}
 use Rattle.program.specs.declared.asked.RunAsk.{RunAsk}
 use Rattle.program.specs.declared.explained.Input.{Input}
 use Rattle.command_line.specs.declared.words.Ask.{Ask}
+use Rattle.sim_base.specs.Texts.{texts_of}
 
 -- ---- what stands behind references
 
--- texts, one after the other
-abbrev pub words_of : List (Bor (List ℕ)) → List (List ℕ)
-words_of words = map (λ w. w.now) words
-
 -- the files of a run's traces
 abbrev pub traces_of : RunAsk → List (List ℕ)
-traces_of asked = words_of asked.traces.now
+traces_of asked = texts_of asked.traces.now
 
 -- the files that a run reads: its configuration, and its traces
 abbrev pub run_paths : RunAsk → List (List ℕ)
@@ -51,7 +48,7 @@ run_paths asked = asked.config.now ∷ traces_of asked
 
 -- the texts of a run's traces
 abbrev pub texts_in : Input → List (List ℕ)
-texts_in input = words_of input.texts.now
+texts_in input = texts_of input.texts.now
 
 -- what can be seen of the files and of the stream of answers
 abbrev pub sight : {S O P : Type 0} → Files S O → Stream P → S → P → Seen
@@ -69,11 +66,7 @@ AreTextsAt set files paths texts = set.tells → map (λ p. set.held files p.now
 
 -- memory was refused, or one of these files cannot be read
 abbrev pub AreUnread : {S O : Type 0} → Files S O → S → List (Bor (List ℕ)) → Fault → Type 0
-AreUnread set files paths fault = IsFilesFault set.tells (set.held files) (words_of paths) fault
-
--- this path stands at this place
-abbrev pub IsPathAt : List (Bor (List ℕ)) → Bor (List ℕ) → ℕ → Type 0
-IsPathAt paths path place = (slice_index_or paths place path).now ≡ path.now
+AreUnread set files paths fault = IsFilesFault set.tells (set.held files) (texts_of paths) fault
 
 -- ---- a run
 
@@ -94,7 +87,8 @@ IsInputRefusal input fault =
 -- a machine and its traces are what the files of a run describe
 abbrev pub ReadsInput : {S O : Type 0} → Files S O → S → RunAsk → Config × Vec (List Entry) Global → Type 0
 ReadsInput set files asked read =
-    set.tells → IsInputOf asked.config.now asked.cycles asked.workers.count (traces_of asked) (set.held files) read.0 read.1.items
+    set.tells
+    → IsInputOf asked.config.now asked.cycles asked.workers.count (traces_of asked) (set.held files) read.0 read.1.items
 
 -- this is the outcome of the run that this machine and these traces describe, from whatever texts they were read
 abbrev pub EndsInput : RunAsk → Config → List (List Entry) → RunOutcome → Type 0
@@ -111,11 +105,13 @@ EndsLegally asked machine traces =
 -- the outcome of a run, from its files
 abbrev pub ReadsOutcome : {S O : Type 0} → Files S O → S → RunAsk → RunOutcome → Type 0
 ReadsOutcome set files asked run =
-    set.tells → IsOutcome asked.config.now asked.cycles asked.workers.count asked.tables (traces_of asked) (set.held files) run
+    set.tells
+    → IsOutcome asked.config.now asked.cycles asked.workers.count asked.tables (traces_of asked) (set.held files) run
 
 -- the files of a run can be read, and are right
 abbrev pub CanRun : {S O : Type 0} → Files S O → S → RunAsk → Type 0
-CanRun set files asked = IsReady set.tells (set.held files) (run_paths asked) (IsRightRun asked.cycles asked.workers.count)
+CanRun set files asked =
+    IsReady set.tells (set.held files) (run_paths asked) (IsRightRun asked.cycles asked.workers.count)
 
 -- why a run is refused
 abbrev pub RefusesRun : {S O : Type 0} → Files S O → S → RunAsk → Fault → Type 0
@@ -132,14 +128,17 @@ EndsRun set old new asked =
 -- what is left of a run that is refused
 abbrev pub LeavesRun : {S O : Type 0} → Files S O → S → S → RunAsk → Refusal → Type 0
 LeavesRun set old new asked refusal =
-    set.tells → IsUnfinished refusal asked.config.now asked.cycles asked.workers.count asked.tables asked.out.now (traces_of asked)
+    set.tells
+    → IsUnfinished refusal asked.config.now asked.cycles asked.workers.count asked.tables asked.out.now
+    (traces_of asked)
     (set.has_folder old asked.out.now) (set.held old) (set.held new) (set.opened old) (set.opened new)
 
 -- ---- what is asked
 
 -- a refusal leaves all files as they were, and none was opened to be written
 abbrev pub LeavesFiles : {S O : Type 0} → Files S O → S → S → Refusal → Type 0
-LeavesFiles set old new refusal = set.tells → LeavesAll refusal (set.held old) (set.held new) (set.opened old) (set.opened new)
+LeavesFiles set old new refusal =
+    set.tells → LeavesAll refusal (set.held old) (set.held new) (set.opened old) (set.opened new)
 
 -- why what is asked is refused
 abbrev pub RefusesAsk : {S O : Type 0} → Files S O → S → Ask → Refusal → Type 0
@@ -147,24 +146,26 @@ RefusesAsk set files ask refusal = IsAskFault set.tells (set.held files) ask (fa
 
 -- why what words ask for is refused
 abbrev pub RefusesWords : {S O : Type 0} → Files S O → S → List (Bor (List ℕ)) → Refusal → Type 0
-RefusesWords set files words refusal = IsFaultOf set.tells (set.held files) (words_of words) (fault_of refusal)
+RefusesWords set files words refusal = IsFaultOf set.tells (set.held files) (texts_of words) (fault_of refusal)
 
 -- there is nothing to warn of, unless the words ask for a page
 abbrev pub WarnsOfPages : List (Bor (List ℕ)) → Option LargePage → Type 0
-WarnsOfPages words warning = (warning ≡ None) ⊎ AskForPage (words_of words)
+WarnsOfPages words warning = (warning ≡ None) ⊎ AskForPage (texts_of words)
 
 -- the stream of errors was left alone, unless the words ask for a page
 abbrev pub IsSilentBut : {E : Type 0} → ErrorStream E → ErrorStream E → List (Bor (List ℕ)) → Type 0
-IsSilentBut before after words = (after ≡ before) ⊎ AskForPage (words_of words)
+IsSilentBut before after words = (after ≡ before) ⊎ AskForPage (texts_of words)
 
 -- what the words ask for has been done with this status, and a large page is warned of on a stream of errors
-abbrev pub Answers : {E : Type 0} → Stream E → ErrorStream E → ErrorStream E → List (Bor (List ℕ)) → ExitStatus → Seen → Seen → Type 0
+abbrev pub Answers : {E : Type 0} → Stream E → ErrorStream E → ErrorStream E → List (Bor (List ℕ)) → ExitStatus → Seen
+    → Seen → Type 0
 Answers stream before after words status old new =
-    IsAnswered (words_of words) status old new
+    IsAnswered (texts_of words) status old new
     (has_refused after) (stream.contents (stream_of before)) (stream.contents (stream_of after))
 
 -- what the words ask for is refused, and why is told on a stream of errors
-abbrev pub Tells : {E : Type 0} → Stream E → ErrorStream E → ErrorStream E → Type 0 → List (Bor (List ℕ)) → Seen → Seen → Type 0
+abbrev pub Tells : {E : Type 0} → Stream E → ErrorStream E → ErrorStream E → Type 0 → List (Bor (List ℕ)) → Seen → Seen
+    → Type 0
 Tells stream before after tells words old new =
-    IsTold tells (words_of words) old new
+    IsTold tells (texts_of words) old new
     (has_refused after) (stream.contents (stream_of before)) (stream.contents (stream_of after))

@@ -1,7 +1,7 @@
 //! What the program has done.
 
 ghost use Rattle.std.specs.Prelude.{◌≡◌, None};
-ghost use Rattle.program.specs.Done.{quietly_done, run_done, warned_done};
+ghost use Rattle.program.specs.Done.{done_unwarned, run_done, warned_done};
 
 use crate::status::ExitStatus;
 use refusal::reason::Reason;
@@ -17,7 +17,7 @@ pub(crate) struct Done {
 
 impl Done {
     /// Done, with nothing to warn of.
-    pub(crate) fn quiet() -> Done
+    pub(crate) fn unwarned() -> Done
         ensures status { result.status ≡ ExitStatus.Done }
         ensures warning { result.warning ≡ None }
     {
@@ -48,11 +48,11 @@ impl Done {
 }
 
 /// What an answer has done that warns of nothing.
-pub(crate) fn quietly_done(answer: Result<(), Reason>) -> Result<Done, Refusal>
-    ensures { result ≡ quietly_done answer }
+pub(crate) fn done_unwarned(answer: Result<(), Reason>) -> Result<Done, Refusal>
+    ensures { result ≡ done_unwarned answer }
 {
     match answer {
-        Ok(()) => Ok(Done::quiet()),
+        Ok(()) => Ok(Done::unwarned()),
         Err(reason) => Err(Refusal::Kept(reason)),
     }
 }
@@ -62,7 +62,7 @@ pub(crate) fn run_done(run: Result<(), Refusal>) -> Result<Done, Refusal>
     ensures { result ≡ run_done run }
 {
     match run {
-        Ok(()) => Ok(Done::quiet()),
+        Ok(()) => Ok(Done::unwarned()),
         Err(refusal) => Err(refusal),
     }
 }

@@ -12,7 +12,7 @@ use explain::{RunNumbers, of_config, of_host, of_numbers, of_traces};
 use refusal::reason::Reason;
 use sim_base::config::Config;
 use sim_base::fault::Fault;
-use simulation::gate::Open;
+use simulation::gate::OpenGate;
 use simulation::input::{InputTexts, read_input};
 use simulation::options::{Hooks, MachineInput, RunOptions};
 use simulation::runs::run_input;
@@ -110,7 +110,7 @@ pub(crate) fn outcome_of<R: Threads + Wait + Sync, W: Watch>(
     ensures refused { IfErr result (IsRefusedTo asked.now.workers.count) }
 {
     let hooks = Hooks {
-        gate: &Open,
+        gate: &OpenGate,
         watch: &mut *host.watch,
     };
     let machine = MachineInput {

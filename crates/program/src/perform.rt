@@ -1,12 +1,13 @@
 //! What the program does, over files and streams that are handed in.
 
 ghost use Rattle.std.specs.Prelude.{◌≡◌, ◌≢◌, IfOk, IfErr};
-ghost use Rattle.program.specs.Answered.{IsAnswer, IsDone, IsQuiet, IsLeft, IsRefusedBy, IsRefused};
+ghost use Rattle.program.specs.Answered.{IsAnswer, IsDone, IsUnwarned, IsLeft, IsRefusedBy, IsRefused};
 ghost use Rattle.refusal.specs.Refusals.{fault_of};
-ghost use Rattle.program.specs.Runs.{sight, words_of, IsSeen, RefusesAsk, RefusesWords, WarnsOfPages, IsSilentBut, Answers, Tells};
+ghost use Rattle.program.specs.Runs.{sight, IsSeen, RefusesAsk, RefusesWords, WarnsOfPages, IsSilentBut, Answers, Tells};
+ghost use Rattle.sim_base.specs.Texts.{texts_of};
 
 use crate::asked::{run_ask, view_of};
-use crate::done::{Done, quietly_done, run_done, warned_done};
+use crate::done::{Done, done_unwarned, run_done, warned_done};
 use crate::host::Host;
 use crate::printed::{answer_check, answer_compare, answer_map, answer_show, answer_show_banks};
 use crate::runs::perform_run;
@@ -38,7 +39,7 @@ fn answer<R: Threads + Wait + Sync, W: Watch, F: FileSet, P: Write>(
     ensures answered { IfOk result (λ done. IsSeen F.FileSet P.Write files.old files.new
         output.old output.new (IsAnswer ask.now done)) }
     ensures status { IfOk result (λ done. done.status ≢ ExitStatus.Refused) }
-    ensures quiet { IfOk result (λ done. IsQuiet ask.now done.warning) }
+    ensures unwarned { IfOk result (λ done. IsUnwarned ask.now done.warning) }
     ensures refused { IfErr result (λ e. IsSeen F.FileSet P.Write files.old files.new
         output.old output.new (IsLeft e ask.now)) }
     ensures unprinted { IfErr result (λ e. fault_of e ≢ Fault.Write → output.new ≡ output.old) }
@@ -59,7 +60,7 @@ fn answer<R: Threads + Wait + Sync, W: Watch, F: FileSet, P: Write>(
         }
         Ask::Compare { dirs, csv } => answer_compare(alloc, files, output, dirs, *csv),
         Ask::Help(text) | Ask::Version(text) => {
-            quietly_done(print_text(alloc, output, text.as_str()))
+            done_unwarned(print_text(alloc, output, text.as_str()))
         }
     }
 }
@@ -73,11 +74,11 @@ fn answer_words<R: Threads + Wait + Sync, W: Watch, F: FileSet, P: Write>(
     output: &mut P,
 ) -> Result<Done, Refusal>
     ensures answered { IfOk result (λ done. IsSeen F.FileSet P.Write files.old files.new
-        output.old output.new (IsDone (words_of words.now) done)) }
+        output.old output.new (IsDone (texts_of words.now) done)) }
     ensures status { IfOk result (λ done. done.status ≢ ExitStatus.Refused) }
-    ensures quiet { IfOk result (λ done. WarnsOfPages words.now done.warning) }
+    ensures unwarned { IfOk result (λ done. WarnsOfPages words.now done.warning) }
     ensures refused { IfErr result (λ e. IsSeen F.FileSet P.Write files.old files.new
-        output.old output.new (IsRefusedBy e (words_of words.now))) }
+        output.old output.new (IsRefusedBy e (texts_of words.now))) }
     ensures unprinted { IfErr result (λ e. fault_of e ≢ Fault.Write → output.new ≡ output.old) }
     ensures fault { IfErr result (RefusesWords F.FileSet files.old words.now) }
 {
@@ -112,7 +113,7 @@ pub fn perform<R: Threads + Wait + Sync, W: Watch, F: FileSet, P: Write, E: Writ
         streams.old.output streams.new.output
         (Answers E.Write streams.old.errors streams.new.errors words.now result) }
     ensures refused { result ≡ ExitStatus.Refused → IsSeen F.FileSet P.Write files.old files.new
-        streams.old.output streams.new.output (IsRefused (words_of words.now)) }
+        streams.old.output streams.new.output (IsRefused (texts_of words.now)) }
     ensures told { result ≡ ExitStatus.Refused
         → Tells E.Write streams.old.errors streams.new.errors F.tells words.now
         (sight F.FileSet P.Write files.old streams.old.output)

@@ -3,12 +3,13 @@
 ghost use Rattle.std.specs.Prelude.{◌≡◌, ◌≢◌, None, IfOk, IfErr};
 ghost use Rattle.answers.specs.Inputs.{RefusesCheck, RefusesCompare, RefusesMap};
 ghost use Rattle.program.specs.Answered.{IsAnswer, IsCheckAnswer, IsCompareAnswer, IsMapAnswer};
-ghost use Rattle.program.specs.Runs.{words_of, IsSeen, LeavesFiles, RefusesAsk};
+ghost use Rattle.program.specs.Runs.{IsSeen, LeavesFiles, RefusesAsk};
+ghost use Rattle.sim_base.specs.Texts.{texts_of};
 ghost use Rattle.program.specs.Status.{verdict_status};
 ghost use Rattle.refusal.specs.Refusals.{fault_of};
 
 use crate::asked::{layout_of, options_of};
-use crate::done::{Done, quietly_done};
+use crate::done::{Done, done_unwarned};
 use crate::status::ExitStatus;
 use answers::banks::perform_show_banks;
 use answers::comparisons::perform_compare;
@@ -46,7 +47,7 @@ pub(crate) fn answer_check<F: FileSet, P: Write>(
     ensures answered { IfOk result (λ done. IsSeen F.FileSet P.Write files.old files.new
         output.old output.new (IsCheckAnswer config.now commands.now done.status)) }
     ensures status { IfOk result (λ done. done.status ≢ ExitStatus.Refused) }
-    ensures quiet { IfOk result (λ done. done.warning ≡ None) }
+    ensures unwarned { IfOk result (λ done. done.warning ≡ None) }
     ensures refused { IfErr result (LeavesFiles F.FileSet files.old files.new) }
     ensures unprinted { IfErr result (λ e. fault_of e ≢ Fault.Write → output.new ≡ output.old) }
     ensures fault { IfErr result (λ e.
@@ -67,13 +68,13 @@ pub(crate) fn answer_map<F: FileSet, P: Write>(
     ensures answered { IfOk result (λ done. IsSeen F.FileSet P.Write files.old files.new
         output.old output.new (IsMapAnswer config.now address done.status)) }
     ensures status { IfOk result (λ done. done.status ≢ ExitStatus.Refused) }
-    ensures quiet { IfOk result (λ done. done.warning ≡ None) }
+    ensures unwarned { IfOk result (λ done. done.warning ≡ None) }
     ensures refused { IfErr result (LeavesFiles F.FileSet files.old files.new) }
     ensures unprinted { IfErr result (λ e. fault_of e ≢ Fault.Write → output.new ≡ output.old) }
     ensures fault { IfErr result (λ e.
         RefusesMap F.FileSet files.old config.now (fault_of e)) }
 {
-    quietly_done(perform_map(alloc, files, output, config, address))
+    done_unwarned(perform_map(alloc, files, output, config, address))
 }
 
 /// The screen of a run.
@@ -86,7 +87,7 @@ pub(crate) fn answer_show<F: FileSet, P: Write>(
     ensures answered { IfOk result (λ done. IsSeen F.FileSet P.Write files.old files.new
         output.old output.new (IsAnswer (Ask.Show show.now) done)) }
     ensures status { IfOk result (λ done. done.status ≢ ExitStatus.Refused) }
-    ensures quiet { IfOk result (λ done. done.warning ≡ None) }
+    ensures unwarned { IfOk result (λ done. done.warning ≡ None) }
     ensures refused { IfErr result (LeavesFiles F.FileSet files.old files.new) }
     ensures unprinted { IfErr result (λ e. fault_of e ≢ Fault.Write → output.new ≡ output.old) }
     ensures fault { IfErr result (RefusesAsk F.FileSet files.old (Ask.Show show.now)) }
@@ -95,7 +96,7 @@ pub(crate) fn answer_show<F: FileSet, P: Write>(
         dir: show.dir,
         config: show.config,
     };
-    quietly_done(perform_show(alloc, files, output, &folder, options_of(show)))
+    done_unwarned(perform_show(alloc, files, output, &folder, options_of(show)))
 }
 
 /// The screen of a run, with its banks.
@@ -108,7 +109,7 @@ pub(crate) fn answer_show_banks<F: FileSet, P: Write>(
     ensures answered { IfOk result (λ done. IsSeen F.FileSet P.Write files.old files.new
         output.old output.new (IsAnswer (Ask.ShowBanks show.now) done)) }
     ensures status { IfOk result (λ done. done.status ≢ ExitStatus.Refused) }
-    ensures quiet { IfOk result (λ done. done.warning ≡ None) }
+    ensures unwarned { IfOk result (λ done. done.warning ≡ None) }
     ensures refused { IfErr result (LeavesFiles F.FileSet files.old files.new) }
     ensures unprinted { IfErr result (λ e. fault_of e ≢ Fault.Write → output.new ≡ output.old) }
     ensures fault { IfErr result (RefusesAsk F.FileSet files.old (Ask.ShowBanks show.now)) }
@@ -117,7 +118,7 @@ pub(crate) fn answer_show_banks<F: FileSet, P: Write>(
         dir: show.dir,
         config: show.config,
     };
-    quietly_done(perform_show_banks(alloc, files, output, &folder, options_of(show)))
+    done_unwarned(perform_show_banks(alloc, files, output, &folder, options_of(show)))
 }
 
 /// The comparison of runs, as a screen or as a table of CSV.
@@ -129,13 +130,13 @@ pub(crate) fn answer_compare<F: FileSet, P: Write>(
     csv: bool,
 ) -> Result<Done, Refusal>
     ensures answered { IfOk result (λ done. IsSeen F.FileSet P.Write files.old files.new
-        output.old output.new (IsCompareAnswer (words_of dirs.now) csv done.status)) }
+        output.old output.new (IsCompareAnswer (texts_of dirs.now) csv done.status)) }
     ensures status { IfOk result (λ done. done.status ≢ ExitStatus.Refused) }
-    ensures quiet { IfOk result (λ done. done.warning ≡ None) }
+    ensures unwarned { IfOk result (λ done. done.warning ≡ None) }
     ensures refused { IfErr result (LeavesFiles F.FileSet files.old files.new) }
     ensures unprinted { IfErr result (λ e. fault_of e ≢ Fault.Write → output.new ≡ output.old) }
     ensures fault { IfErr result (λ e.
         RefusesCompare F.FileSet files.old dirs.now (fault_of e)) }
 {
-    quietly_done(perform_compare(alloc, files, output, dirs, layout_of(csv)))
+    done_unwarned(perform_compare(alloc, files, output, dirs, layout_of(csv)))
 }

@@ -1,7 +1,8 @@
 //! `run`: the files of a run are read, the machine is run, and its tables are written.
 
 ghost use Rattle.std.specs.Prelude.{◌≡◌, ◌<◌, ◌≤◌, ◌^◌, length, vec_len, map, true, Some, IsOk, IfOk, IfErr, IfSome, OnOk};
-ghost use Rattle.program.specs.Runs.{words_of, IsPathAt, AreTextsAt, AreUnread, HasWorkers, ReadsInput, CanRun, RefusesRun, ReadsOutcome, EndsRun, LeavesRun};
+ghost use Rattle.program.specs.Runs.{AreTextsAt, AreUnread, HasWorkers, ReadsInput, CanRun, RefusesRun, ReadsOutcome, EndsRun, LeavesRun};
+ghost use Rattle.sim_base.specs.Texts.{IsTextAt, texts_of};
 ghost use Rattle.refusal.specs.Refusals.{fault_of};
 ghost use Rattle.whole_files.specs.Files.{SameFiles, AreHeld, IsReadFault};
 
@@ -26,7 +27,7 @@ use whole_files::tables::write_tables;
 // An earlier place with the same path.
 fn earlier(paths: &[&str], place: usize, path: &str) -> Option<usize>
     ensures before { IfSome result (λ first. first < place) }
-    ensures same { IfSome result (IsPathAt paths.now path.entry) }
+    ensures same { IfSome result (IsTextAt paths.now path.entry) }
 {
     for first in 0..place.min(paths.len()) {
         if paths[first] == path {
@@ -44,7 +45,7 @@ fn next_text<F: FileSet>(
     texts: &[SharedText],
     path: &str,
 ) -> Result<SharedText, Reason>
-    requires read { F.tells → AreHeld (F.held files.old) (words_of paths.now) texts.now }
+    requires read { F.tells → AreHeld (F.held files.old) (texts_of paths.now) texts.now }
     ensures text { IfOk result (λ t. F.tells → F.held files.old path.now ≡ Some t) }
     ensures fault { IfErr result (IsReadFault F.tells (F.held files.old path.now)) }
     ensures same { F.tells → SameFiles (F.held files.old) (F.held files.new) }

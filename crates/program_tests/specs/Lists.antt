@@ -8,7 +8,7 @@ use Rattle.std.specs.declared.alloc.Global.{Global}
 use Rattle.refusal.specs.Streams.{has_refused, stream_of}
 use Rattle.whole_files.specs.declared.files.FileSet.{Ghosts as Files}
 use Rattle.program.specs.Answered.{Seen, seen, IsAnswered}
-use Rattle.program.specs.Runs.{words_of}
+use Rattle.sim_base.specs.Texts.{texts_of}
 use Rattle.program.specs.Told.{IsTold}
 use Rattle.program.specs.declared.streams.Streams.{Streams}
 use Rattle.program.specs.declared.status.ExitStatus.{ExitStatus}
@@ -24,11 +24,11 @@ sight set files streams = seen (set.held files) (set.has_folder files) (set.open
 -- what the words ask for has been done with this status, and a large page is warned of on the list of errors
 abbrev pub Answers : Lists → Lists → List (Bor (List ℕ)) → ExitStatus → Seen → Seen → Type 0
 Answers before after words status old new =
-    IsAnswered (words_of words) status old new
+    IsAnswered (texts_of words) status old new
     (has_refused after.errors) (Some (stream_of before.errors).items) (Some (stream_of after.errors).items)
 
 -- what the words ask for is refused, and why is told on the list of errors
 abbrev pub Tells : Lists → Lists → List (Bor (List ℕ)) → Seen → Seen → Type 0
 Tells before after words old new =
-    IsTold (Unit {0}) (words_of words) old new
+    IsTold (Unit {0}) (texts_of words) old new
     (has_refused after.errors) (Some (stream_of before.errors).items) (Some (stream_of after.errors).items)

@@ -2,7 +2,8 @@
 
 ghost use Rattle.std.specs.Prelude.{◌≡◌, ◌/◌, ◌*◌};
 ghost use Rattle.std.specs.Duration.{as_nanos};
-ghost use Rattle.progress.specs.Figures.{quotient, percent_of, left_by, sooner_of, left_of, figures_of};
+ghost use Rattle.progress.specs.Figures.{quotient, percent_of, left_by, left_of, figures_of};
+ghost use Rattle.sim_base.specs.Earlier.{earlier};
 
 use sim_base::message::Cycle;
 use simulation::watch::Stage;
@@ -51,8 +52,8 @@ fn left_by(millis: u128, part: u128, whole: u128) -> Option<u128>
     Some(millis / 1_000)
 }
 
-fn sooner_of(one: Option<u128>, other: Option<u128>) -> Option<u128>
-    ensures { result ≡ sooner_of one other }
+fn earlier(one: Option<u128>, other: Option<u128>) -> Option<u128>
+    ensures { result ≡ earlier one other }
 {
     match (one, other) {
         (Some(one), Some(other)) => Some(one.min(other)),
@@ -69,7 +70,7 @@ fn left_of(stage: Stage, millis: u128) -> Option<u128>
     let by_cycles = left_by(millis, u128::from(stage.now), u128::from(stage.limit));
     match stage.retired {
         Some(retired) if stage.ends_drained => {
-            sooner_of(by_cycles, left_by(millis, retired, stage.entries))
+            earlier(by_cycles, left_by(millis, retired, stage.entries))
         }
         _ => by_cycles,
     }

@@ -5,7 +5,8 @@ use Rattle.std.specs.List.{zip, count_by}
 use Rattle.std.proofs.lemmas.List.Sums.{sum_by-cons}
 use Rattle.sim_base.specs.declared.place.Place.{Place}
 use Rattle.queue.specs.declared.request_log.Arrived.{Arrived}
-use Rattle.queue.specs.Marks.{mark, is_marked}
+use Rattle.queue.specs.Marks.{is_marked}
+use Rattle.sim_base.specs.Counts.{one_if}
 use Rattle.queue.specs.Log.{absent, waiting_requests, all_requests, eligible_column, activated_at}
 use Rattle.queue.specs.Columns.{tag_of, tags_of, tag_column, is_blocked, blocked_count}
 use Rattle.queue.proofs.Waiting.{waiting_first, if_waits}
@@ -19,7 +20,7 @@ all_activated [] place = refl
 all_activated (a ∷ log) zero = refl
 all_activated (a ∷ log) (suc place) = ap (λ rs. a.request ∷ rs) (all_activated log place)
 
--- the same requests wait
+-- the same requests wait after an ACT in the name of a request
 pub waiting_activated : (log : List Arrived) (place : ℕ) → waiting_requests (activated_at log place) ≡ waiting_requests log
 waiting_activated [] place = refl
 waiting_activated (a ∷ log) zero = waiting_first (record a { activated = true }) log ∙ sym (waiting_first a log)
@@ -29,7 +30,7 @@ waiting_activated (a ∷ log) (suc place) =
 marks_activated : (asked : Place → Bool) (log : List Arrived) (place : ℕ) → marks_after asked (activated_at log place) ≡ marks_after asked log
 marks_activated asked [] place = refl
 marks_activated asked (a ∷ log) zero = refl
-marks_activated asked (a ∷ log) (suc place) = ap (λ ms. mark (a.waits && not (asked a.request.place)) ∷ ms) (marks_activated (asked_with asked a) log place)
+marks_activated asked (a ∷ log) (suc place) = ap (λ ms. one_if (a.waits && not (asked a.request.place)) ∷ ms) (marks_activated (asked_with asked a) log place)
 
 -- the marks are the same
 pub eligible_activated : (log : List Arrived) (place : ℕ) → eligible_column (activated_at log place) ≡ eligible_column log

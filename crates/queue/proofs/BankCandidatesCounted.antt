@@ -40,7 +40,7 @@ changed counts rs others r value counted below same value_is k within = elim (ca
       ∙ sym (same k apart)
 ]
 
--- one request more
+-- the counters of banks and accesses, with one request more
 pub counted_push : (counts : List ℕ) (rs : List Request) (r : Request) (value : ℕ) → AreCounted counts rs → access_number_of r < length counts → length rs < 2 ^ 16 - 1
     → value ≡ min (get_or counts (access_number_of r) 0 + 1) 65535 → AreCounted (set counts (access_number_of r) value) (rs ++ r ∷ [])
 counted_push counts rs r value counted below short value_is =
@@ -54,7 +54,7 @@ counted_push counts rs r value counted below short value_is =
     omega (arith, step k, none))
     (omega (arith, step own, one, few, value_is, counted own below))
 
--- one request less
+-- the counters of banks and accesses, with one request less
 pub counted_removed : (counts : List ℕ) (rs : List Request) (place : ℕ) (r : Request) (value : ℕ) → AreCounted counts rs → access_number_of r < length counts → place < length rs
     → r ≡ get_or rs place r → value ≡ get_or counts (access_number_of r) 0 - 1 → AreCounted (set counts (access_number_of r) value) (remove rs place)
 counted_removed counts rs place r value counted below exists here value_is =
@@ -84,7 +84,7 @@ none_asks number [] none k d exists = absurd (omega arith)
 none_asks number (r ∷ rs) none zero d exists = (apart_first number r rs none).0
 none_asks number (r ∷ rs) none (suc k) d exists = none_asks number rs (apart_first number r rs none).1 k d (omega arith)
 
--- and it has no candidate
+-- where a counter counts none, its bank and access have no candidate
 pub no_first : (log : List Arrived) (bank : ℕ) (access : Access) → access_count (access_number bank access) (waiting_requests log) ≡ 0 → None ≡ first_place (asks bank access) log
 no_first log bank access none =
     none_waits (asks bank access) log

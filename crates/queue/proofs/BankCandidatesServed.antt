@@ -13,10 +13,11 @@ use Rattle.queue.specs.Marks.{is_marked}
 use Rattle.queue.specs.Log.{absent, all_requests, waiting_requests, eligible_column}
 use Rattle.queue.proofs.Eligible.{marks_after, length-eligible, marked_waits}
 use Rattle.queue.proofs.Places.{all_served, length-served}
-use Rattle.queue.specs.Candidates.{passes, entries, first_place}
-use Rattle.queue.specs.Moves.{earlier, NoneBefore}
+use Rattle.queue.specs.Candidates.{passes, marked_requests, first_place}
+use Rattle.queue.specs.Moves.{NonePassesBefore}
+use Rattle.sim_base.specs.Earlier.{earlier}
 use Rattle.queue.specs.Served.{passing, IsServed}
-use Rattle.queue.proofs.Entries.{zip_long, eligible_append}
+use Rattle.queue.proofs.MarkedRequests.{zip_long, eligible_append}
 use Rattle.queue.proofs.Positions.{position-cons}
 use Rattle.queue.proofs.Searches.{here_is, none_more, none_before_first}
 
@@ -110,7 +111,7 @@ all_long log = length-map log (λ (a : Arrived). a.request)
 pub left_stays : (test : Request → Bool) (log : List Arrived) (place : ℕ) → place < length log → (first_place test log ≡ Some place → ⊥) → left_place test log place ≡ first_place test log
 left_stays test log place within apart =
     ap (position (passes test)) (zip_set (all_requests log) (eligible_column log) place 0 absent.request (omega (arith, all_long log)))
-    ∙ position_fails (passes test) (entries log) place (get_or (all_requests log) place absent.request, 0) refl apart
+    ∙ position_fails (passes test) (marked_requests log) place (get_or (all_requests log) place absent.request, 0) refl apart
 
 -- with the one that may be served now
 pub with_next : (test : Request → Bool) (was log : List Arrived) (place : ℕ) (unblocked : Option ℕ) → IsServed was place unblocked log
@@ -150,7 +151,7 @@ marks_front log n k sooner within =
 
 -- none stands before the place behind the request that was served, if that was the first
 pub none_left : (test : Request → Bool) (was log : List Arrived) (place : ℕ) (unblocked : Option ℕ) → IsServed was place unblocked log → first_place test was ≡ Some place
-    → NoneBefore test log (place + 1)
+    → NonePassesBefore test log (place + 1)
 none_left test was log place unblocked served is =
     let long : length log ≡ length was = ap length served.log_is ∙ length-served was place in
     let front : take place log ≡ take place was = ap (take place) served.log_is ∙ take-set was place _ in
@@ -177,7 +178,7 @@ is_there (Some k) place = elim (cases_eq k place) [
 
 -- a candidate that stays, or is replaced by the next one where it was the request that was served
 pub left_candidate : (test : Request → Bool) (was log : List Arrived) (place : ℕ) (unblocked : Option ℕ) (old new : Option ℕ) → IsServed was place unblocked log → old ≡ first_place test was
-    → ((old ≡ Some place → ⊥) → new ≡ old) → (old ≡ Some place → NoneBefore test log (place + 1) → new ≡ first_place test log)
+    → ((old ≡ Some place → ⊥) → new ≡ old) → (old ≡ Some place → NonePassesBefore test log (place + 1) → new ≡ first_place test log)
     → earlier new (passing test log unblocked) ≡ first_place test log
 left_candidate test was log place unblocked old new served is kept found =
     let next = passing test log unblocked in
@@ -194,7 +195,7 @@ not_there : (test : Request → Bool) (log : List Arrived) (place : ℕ) → pla
 not_there test log place within fails is =
     let d : Request × ℕ = (absent.request, 0) in
     let m = is_marked (get_or (eligible_column log) place 0) in
-    let passed : passes test (get_or (entries log) place d) ≡ true = (position-Some (passes test) (entries log) place d is).1 in
+    let passed : passes test (get_or (marked_requests log) place d) ≡ true = (position-Some (passes test) (marked_requests log) place d is).1 in
     let parts = and_parts m (test (get_or log place absent).request) (sym (here_is test log place absent d within) ∙ passed) in
     true≢false (sym parts.1 ∙ fails)
 

@@ -60,7 +60,7 @@ changed counter_of counts rs others r counter value counted counter_is below sam
       ∙ sym (same k apart)
 ]
 
--- one request more
+-- the counters of lines or rows, with one request more
 pub counted_push : (counter_of : Request → ℕ) (counts : List ℕ) (rs more : List Request) (r : Request) (counter value : ℕ) → AreCounted counter_of counts rs → counter ≡ counter_of r → counter < length counts
     → more ≡ rs ++ r ∷ [] → value ≡ get_or counts counter 0 + 1 → AreCounted counter_of (set counts counter value) more
 counted_push counter_of counts rs more r counter value counted counter_is below more_is value_is =
@@ -77,7 +77,7 @@ removed_step : (counter_of : Request → ℕ) (k n : ℕ) (rs fewer : List Reque
 removed_step counter_of k n rs fewer r exists here fewer_is =
     (λ i. counted_by counter_of (fewer_is i) k + counts_it counter_of k (here i)) ∙ sum_by-remove (counts_it counter_of k) rs n r exists
 
--- one request less
+-- the counters of lines or rows, with one request less
 pub counted_removed : (counter_of : Request → ℕ) (n : ℕ) (counts : List ℕ) (rs fewer : List Request) (r : Request) (counter value : ℕ) → AreCounted counter_of counts rs → counter ≡ counter_of r
     → counter < length counts → n < length rs → r ≡ get_or rs n r → fewer ≡ remove rs n → value ≡ get_or counts counter 0 - 1 → AreCounted counter_of (set counts counter value) fewer
 counted_removed counter_of n counts rs fewer r counter value counted counter_is below exists here fewer_is value_is =
@@ -102,7 +102,7 @@ pub few_counted : (counter_of : Request → ℕ) (counts : List ℕ) (rs : List 
 few_counted counter_of counts rs counter counted below =
     omega (arith, counted counter below, count_by-le-length (λ (r : Request). eqb (counter_of r) counter) rs)
 
--- one that arrives waits behind all others
+-- a request that arrives waits behind all others
 pub requests_push : (log : List Arrived) (r : Request) → waiting_requests (log ++ arrived_now r ∷ []) ≡ waiting_requests log ++ r ∷ []
 requests_push log r = waiting_append log (arrived_now r ∷ []) ∙ ap (λ rs. waiting_requests log ++ rs) (waiting_one (arrived_now r))
 

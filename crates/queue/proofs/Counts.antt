@@ -12,14 +12,14 @@ use Rattle.queue.specs.Columns.{write_count}
 use Rattle.queue.proofs.Counted.{requests_push}
 use Rattle.queue.proofs.Places.{waiting_at, waiting_within, waiting_served}
 
--- one more waits
+-- one request more waits when one arrives
 pub length_arrived : (log : List Arrived) (r : Request) → length (waiting_requests (log ++ arrived_now r ∷ [])) ≡ length (waiting_requests log) + 1
 length_arrived log r = ap length (requests_push log r) ∙ length_push (waiting_requests log) r
 
 pub writes_arrived : (log : List Arrived) (r : Request) → write_count (waiting_requests (log ++ arrived_now r ∷ [])) ≡ write_count (waiting_requests log) + cond (is_access access.Write r.access) 1 0
 writes_arrived log r = ap write_count (requests_push log r) ∙ sum_by_push (λ x. cond (is_access access.Write x.access) 1 0) (waiting_requests log) r
 
--- one waits no longer
+-- one request less waits when one is served
 pub length_served : (log : List Arrived) (place : ℕ) → place < length log → waits_at log place ≡ true → length (waiting_requests (served_at log place)) + 1 ≡ length (waiting_requests log)
 length_served log place within waits =
     let below = waiting_within log place within waits in

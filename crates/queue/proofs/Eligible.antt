@@ -7,7 +7,8 @@ use Rattle.sim_base.specs.Places.{is_line}
 use Rattle.sim_base.specs.Scheduling.{asks_for_line}
 use Rattle.sim_base.specs.declared.place.Place.{Place}
 use Rattle.queue.specs.declared.request_log.Arrived.{Arrived}
-use Rattle.queue.specs.Marks.{mark, is_marked}
+use Rattle.queue.specs.Marks.{is_marked}
+use Rattle.sim_base.specs.Counts.{one_if}
 use Rattle.queue.specs.Log.{waiting, waiting_requests, eligible_column}
 use Rattle.queue.proofs.Waiting.{asks_push, asks_first}
 
@@ -18,10 +19,10 @@ asked_with asked a p = asked p || (a.waits && is_line a.request.place p)
 -- the marks of requests that follow others, by which lines those asked for
 abbrev pub marks_after : (Place → Bool) → List Arrived → List ℕ
 marks_after asked [] = []
-marks_after asked (a ∷ log) = mark (a.waits && not (asked a.request.place)) ∷ marks_after (asked_with asked a) log
+marks_after asked (a ∷ log) = one_if (a.waits && not (asked a.request.place)) ∷ marks_after (asked_with asked a) log
 
 marks_from : (older log : List Arrived) (n : ℕ) → length older ≡ n
-    → map (λ e. mark (e.1.waits && not (asks_for_line e.1.request.place (waiting_requests (take e.0 (older ++ log)))))) (enumerate_from n log)
+    → map (λ e. one_if (e.1.waits && not (asks_for_line e.1.request.place (waiting_requests (take e.0 (older ++ log)))))) (enumerate_from n log)
     ≡ marks_after (λ p. asks_for_line p (waiting_requests older)) log
 marks_from older [] n long = refl
 marks_from older (a ∷ log) n long =
@@ -29,10 +30,10 @@ marks_from older (a ∷ log) n long =
     let before : take n (older ++ a ∷ log) ≡ older = take_at older (a ∷ log) n long in
     let longer : length (older ++ a ∷ []) ≡ n + 1 = length_push older a ∙ ap (λ k. k + 1) long in
     let rest =
-    ap (λ (w : List Arrived). map (λ e. mark (e.1.waits && not (asks_for_line e.1.request.place (waiting_requests (take e.0 w))))) (enumerate_from (n + 1) log)) whole
+    ap (λ (w : List Arrived). map (λ e. one_if (e.1.waits && not (asks_for_line e.1.request.place (waiting_requests (take e.0 w))))) (enumerate_from (n + 1) log)) whole
     ∙ marks_from (older ++ a ∷ []) log (n + 1) longer
     ∙ ap (λ (f : Place → Bool). marks_after f log) (λ i p. asks_push p older a i) in
-    λ i. mark (a.waits && not (asks_for_line a.request.place (waiting_requests (before i)))) ∷ rest i
+    λ i. one_if (a.waits && not (asks_for_line a.request.place (waiting_requests (before i)))) ∷ rest i
 
 pub eligible_is : (log : List Arrived) → eligible_column log ≡ marks_after (λ p. false) log
 unfolding eligible_column asks_for_line waiting
@@ -45,7 +46,7 @@ length-marks asked (a ∷ log) = ap suc (length-marks (asked_with asked a) log)
 pub length-eligible : (log : List Arrived) → length (eligible_column log) ≡ length log
 length-eligible log = ap length (eligible_is log) ∙ length-marks (λ p. false) log
 
-marked_first : (b c : Bool) → is_marked (mark (b && c)) ≡ true → b ≡ true
+marked_first : (b c : Bool) → is_marked (one_if (b && c)) ≡ true → b ≡ true
 marked_first true c marked = refl
 marked_first false c marked = marked
 
@@ -69,18 +70,18 @@ marks-append asked (a ∷ log) more =
     λ p.
     or_assoc (asked p) (a.waits && is_line a.request.place p) (asks_for_line p (waiting_requests log))
     ∙ ap (λ b. asked p || b) (sym (asks_first p a log)) in
-    ap (λ ms. mark (a.waits && not (asked a.request.place)) ∷ ms)
+    ap (λ ms. one_if (a.waits && not (asked a.request.place)) ∷ ms)
     (marks-append (asked_with asked a) log more ∙ ap (λ (f : Place → Bool). marks_after (asked_with asked a) log ++ marks_after f more) (λ i p. step p i))
 
 -- the marks round a place
 pub split_marks : (older later : List Arrived) (a : Arrived)
     → eligible_column (older ++ a ∷ later)
     ≡ marks_after (λ p. false) older
-    ++ mark (a.waits && not (asks_for_line a.request.place (waiting_requests older)))
+    ++ one_if (a.waits && not (asks_for_line a.request.place (waiting_requests older)))
     ∷ marks_after (λ p. asks_for_line p (waiting_requests older) || (a.waits && is_line a.request.place p)) later
 split_marks older later a = eligible_is (older ++ a ∷ later) ∙ marks-append (λ p. false) older (a ∷ later)
 
 -- the marks of a log and one more
 pub eligible_push : (log : List Arrived) (a : Arrived)
-    → eligible_column (log ++ a ∷ []) ≡ eligible_column log ++ mark (a.waits && not (asks_for_line a.request.place (waiting_requests log))) ∷ []
-eligible_push log a = split_marks log [] a ∙ ap (λ ms. ms ++ mark (a.waits && not (asks_for_line a.request.place (waiting_requests log))) ∷ []) (sym (eligible_is log))
+    → eligible_column (log ++ a ∷ []) ≡ eligible_column log ++ one_if (a.waits && not (asks_for_line a.request.place (waiting_requests log))) ∷ []
+eligible_push log a = split_marks log [] a ∙ ap (λ ms. ms ++ one_if (a.waits && not (asks_for_line a.request.place (waiting_requests log))) ∷ []) (sym (eligible_is log))

@@ -10,7 +10,8 @@ use Rattle.sim_base.specs.Scheduling.{asks_for_line, first_of_lines}
 use Rattle.sim_base.specs.declared.message.Request.{Request}
 use Rattle.sim_base.specs.declared.place.Place.{Place}
 use Rattle.queue.specs.declared.request_log.Arrived.{Arrived}
-use Rattle.queue.specs.Marks.{mark, is_marked}
+use Rattle.queue.specs.Marks.{is_marked}
+use Rattle.sim_base.specs.Counts.{one_if}
 use Rattle.queue.specs.Log.{waiting, waiting_requests, all_requests, eligible_column}
 use Rattle.queue.specs.Columns.{marked_items}
 use Rattle.queue.proofs.Waiting.{waiting_first, if_waits}
@@ -29,10 +30,10 @@ unfolding asks_for_line
 asks_more p older r =
     list_any-append (λ q. is_line q.place p) older (r ∷ []) ∙ ap (λ b. list_any (λ (q : Request). is_line q.place p) older || b) (or-false (is_line r.place p))
 
-firsts_next : (b c : Bool) (n : ℕ) (r : Request) (entries : List (ℕ × Request)) (rest : List Request) → b ≡ c → map (λ e. e.1) entries ≡ rest
-    → map (λ e. e.1) (cond b ((n, r) ∷ entries) entries) ≡ cond c (r ∷ rest) rest
-firsts_next true c n r entries rest same rest_is = ap (λ rs. r ∷ rs) rest_is ∙ ap (λ b. cond b (r ∷ rest) rest) same
-firsts_next false c n r entries rest same rest_is = rest_is ∙ ap (λ b. cond b (r ∷ rest) rest) same
+firsts_next : (b c : Bool) (n : ℕ) (r : Request) (marked_requests : List (ℕ × Request)) (rest : List Request) → b ≡ c → map (λ e. e.1) marked_requests ≡ rest
+    → map (λ e. e.1) (cond b ((n, r) ∷ marked_requests) marked_requests) ≡ cond c (r ∷ rest) rest
+firsts_next true c n r marked_requests rest same rest_is = ap (λ rs. r ∷ rs) rest_is ∙ ap (λ b. cond b (r ∷ rest) rest) same
+firsts_next false c n r marked_requests rest same rest_is = rest_is ∙ ap (λ b. cond b (r ∷ rest) rest) same
 
 firsts_from : (older rs : List Request) (n : ℕ) → length older ≡ n
     → map (λ e. e.1) (filter (λ e. not (asks_for_line e.1.place (take e.0 (older ++ rs)))) (enumerate_from n rs)) ≡ firsts_after (λ p. asks_for_line p older) rs
@@ -41,24 +42,24 @@ firsts_from older (r ∷ rs) n long =
     let whole : older ++ r ∷ rs ≡ (older ++ r ∷ []) ++ rs = sym (append_assoc older (r ∷ []) rs) in
     let before : take n (older ++ r ∷ rs) ≡ older = take_at older (r ∷ rs) n long in
     let longer : length (older ++ r ∷ []) ≡ n + 1 = length_push older r ∙ ap (λ k. k + 1) long in
-    let entries = filter (λ e. not (asks_for_line e.1.place (take e.0 (older ++ r ∷ rs)))) (enumerate_from (n + 1) rs) in
-    let rest : map (λ (e : ℕ × Request). e.1) entries ≡ firsts_after (asked_too (λ p. asks_for_line p older) r) rs =
+    let marked_requests = filter (λ e. not (asks_for_line e.1.place (take e.0 (older ++ r ∷ rs)))) (enumerate_from (n + 1) rs) in
+    let rest : map (λ (e : ℕ × Request). e.1) marked_requests ≡ firsts_after (asked_too (λ p. asks_for_line p older) r) rs =
     ap (λ (w : List Request). map (λ e. e.1) (filter (λ e. not (asks_for_line e.1.place (take e.0 w))) (enumerate_from (n + 1) rs))) whole
     ∙ firsts_from (older ++ r ∷ []) rs (n + 1) longer
     ∙ ap (λ (f : Place → Bool). firsts_after f rs) (λ i p. asks_more p older r i) in
-    firsts_next (not (asks_for_line r.place (take n (older ++ r ∷ rs)))) (not (asks_for_line r.place older)) n r entries _ (ap (λ rs. not (asks_for_line r.place rs)) before) rest
+    firsts_next (not (asks_for_line r.place (take n (older ++ r ∷ rs)))) (not (asks_for_line r.place older)) n r marked_requests _ (ap (λ rs. not (asks_for_line r.place rs)) before) rest
 
 firsts_are : (rs : List Request) → first_of_lines rs ≡ firsts_after (λ p. false) rs
 unfolding first_of_lines asks_for_line
 firsts_are rs = firsts_from [] rs 0 refl
 
 marked_next : (b c : Bool) (a : Arrived) (pairs : List (Request × ℕ)) (rest : List Request) → map (λ p. p.0) pairs ≡ rest
-    → map (λ p. p.0) (cond (is_marked (mark (b && c))) ((a.request, mark (b && c)) ∷ pairs) pairs) ≡ cond b (cond c (a.request ∷ rest) rest) rest
+    → map (λ p. p.0) (cond (is_marked (one_if (b && c))) ((a.request, one_if (b && c)) ∷ pairs) pairs) ≡ cond b (cond c (a.request ∷ rest) rest) rest
 marked_next true true a pairs rest same = ap (λ rs. a.request ∷ rs) same
 marked_next true false a pairs rest same = same
 marked_next false c a pairs rest same = same
 
--- one that does not wait asks for no line
+-- the first requests of their lines, with one request of the log more: one that does not wait asks for no line
 marked_step : (asked : Place → Bool) (a : Arrived) (rs : List Request)
     → cond a.waits (cond (not (asked a.request.place)) (a.request ∷ firsts_after (asked_with asked a) rs) (firsts_after (asked_with asked a) rs)) (firsts_after (asked_with asked a) rs)
     ≡ firsts_after asked (if_waits a ++ rs)

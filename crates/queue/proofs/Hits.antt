@@ -6,8 +6,8 @@ use Rattle.sim_base.specs.declared.message.Access.{Access}
 use Rattle.queue.specs.declared.request_log.Arrived.{Arrived}
 use Rattle.queue.specs.Marks.{is_marked}
 use Rattle.queue.specs.Log.{absent, eligible_column}
-use Rattle.queue.specs.Candidates.{asks, wants, passes, entries, first_place}
-use Rattle.queue.specs.Moves.{NoneBefore}
+use Rattle.queue.specs.Candidates.{asks, wants, passes, marked_requests, first_place}
+use Rattle.queue.specs.Moves.{NonePassesBefore}
 use Rattle.queue.proofs.Searches.{here_is, none_more, none_narrower, none_before_first, found_here}
 use Rattle.queue.proofs.OneBank.{wants_narrower}
 
@@ -34,12 +34,12 @@ hit_here log xs place bank row access e within same is asked =
     (λ d.
     let r = (get_or log place absent).request in
     let m = is_marked (get_or (eligible_column log) place 0) in
-    let passed : passes any (get_or (entries log) place d) ≡ true = (position-Some (passes any) (entries log) place d (sym is)).1 in
+    let passed : passes any (get_or (marked_requests log) place d) ≡ true = (position-Some (passes any) (marked_requests log) place d (sym is)).1 in
     here_is test log place absent d within
     ∙ both m (any r) (eqb r.place.row row) (sym (here_is any log place absent d within) ∙ passed) (row_at log xs place e absent row within same ∙ asked))
 
 pub hit_behind : (log : List Arrived) (place bank row : ℕ) (access : Access) → Some place ≡ first_place (asks bank access) log
-    → (place < length log → eqb (get_or log place absent).request.place.row row ≡ false) → NoneBefore (wants bank access (Some row)) log (place + 1)
+    → (place < length log → eqb (get_or log place absent).request.place.row row ≡ false) → NonePassesBefore (wants bank access (Some row)) log (place + 1)
 hit_behind log place bank row access is other =
     let any = asks bank access in
     let test = wants bank access (Some row) in

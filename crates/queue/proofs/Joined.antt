@@ -9,7 +9,7 @@ use Rattle.queue.specs.declared.request_log.Arrived.{Arrived}
 use Rattle.queue.specs.Log.{waiting_requests}
 use Rattle.queue.specs.declared.bank_candidates.entry.AccessCandidates.{AccessCandidates}
 use Rattle.queue.specs.Candidates.{asks, hits, first_place, AreFirst}
-use Rattle.queue.proofs.Entries.{first_push}
+use Rattle.queue.proofs.MarkedRequests.{first_push}
 
 -- a request that follows these may be served
 abbrev pub may_follow : List Arrived → Arrived → Bool

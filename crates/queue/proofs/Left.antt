@@ -8,7 +8,7 @@ use Rattle.sim_base.specs.declared.message.Request.{Request}
 use Rattle.queue.specs.declared.request_log.Arrived.{Arrived}
 use Rattle.queue.specs.Marks.{is_marked}
 use Rattle.queue.specs.Log.{absent, waiting_requests, eligible_column, is_for, served_at, waits_at}
-use Rattle.queue.specs.Columns.{bank_number, tag_word, tag_column, left_tag, blocked_count, AreCounted}
+use Rattle.queue.specs.Columns.{bank_number, tag_word, tag_column, served_tag, blocked_count, AreCounted}
 use Rattle.queue.specs.Lines.{is_told, NoneTold, IsFoundAt}
 use Rattle.queue.proofs.Waiting.{asks_some}
 use Rattle.queue.proofs.Eligible.{length-eligible}
@@ -22,7 +22,7 @@ use Rattle.queue.proofs.Told.{told_there}
 abbrev pub NoneBehind : List Arrived → ℕ → ℕ → Type 0
 NoneBehind log place until = (j : ℕ) → place < j → j < until → is_for (get_or log place absent).request.place (get_or log j absent) ≡ false
 
--- the others stand where they did
+-- the requests behind the one that is served stand where they did
 other_there : (log : List Arrived) (place j : ℕ) → place < j → get_or (served_at log place) j absent ≡ get_or log j absent
 other_there log place j behind = get_or-set_other log place j (left_off (get_or log place absent)) absent (λ e. omega (arith, e, behind))
 
@@ -57,7 +57,7 @@ pub record IsBehind (log : List Arrived) (tags : List ℕ) (place : ℕ) (a : Ar
   pub there : a ≡ get_or log place absent
   pub tags_are : tags ≡ tag_column log
   pub left_is : left ≡ served_at log place
-  pub left_tags_are : left_tags ≡ set tags place left_tag
+  pub left_tags_are : left_tags ≡ set tags place served_tag
 
 -- none behind waits for the line as far as no tag of the line is met
 pub none_met : (log : List Arrived) (tags : List ℕ) (place : ℕ) (a : Arrived) (left : List Arrived) (left_tags : List ℕ) (until : ℕ) → IsBehind log tags place a left left_tags → until ≤ length log
@@ -65,7 +65,7 @@ pub none_met : (log : List Arrived) (tags : List ℕ) (place : ℕ) (a : Arrived
 none_met log tags place a left left_tags until is short none j behind below =
     let asked = (get_or log place absent).request.place in
     let there : get_or left_tags j 0 ≡ get_or (tag_column log) j 0 =
-    ap (λ xs. get_or xs j 0) is.left_tags_are ∙ get_or-set_other tags place j left_tag 0 (λ e. omega (arith, e, behind)) ∙ ap (λ xs. get_or xs j 0) is.tags_are in
+    ap (λ xs. get_or xs j 0) is.left_tags_are ∙ get_or-set_other tags place j served_tag 0 (λ e. omega (arith, e, behind)) ∙ ap (λ xs. get_or xs j 0) is.tags_are in
     let other : get_or left j absent ≡ get_or log j absent = ap (λ (xs : List Arrived). get_or xs j absent) is.left_is ∙ other_there log place j behind in
     false_from_ne_true (is_for asked (get_or log j absent))
     (λ here.
@@ -101,12 +101,12 @@ marks_next log place next within waits first is = served_first log place next wi
 
 pub tags_next : (log : List Arrived) (tags : List ℕ) (place next tag : ℕ) → place < length log → waits_at log place ≡ true → is_marked (get_or (eligible_column log) place 0) ≡ true
     → IsNextAt log place next → tags ≡ tag_column log → tag ≡ tag_word true (get_or (served_at log place) next absent).request.access (bank_number (get_or (served_at log place) next absent).request.place)
-    → set (set tags place left_tag) next tag ≡ tag_column (served_at log place)
+    → set (set tags place served_tag) next tag ≡ tag_column (served_at log place)
 tags_next log tags place next tag within waits first is tags_are tag_is =
     let a = get_or (served_at log place) next absent in
     let parts = and_parts (waits_at log next) (is_line (get_or log next absent).request.place (get_or log place absent).request.place) is.here in
     let does : a.waits ≡ true = ap (λ (b : Arrived). b.waits) (other_there log place next is.behind) ∙ parts.0 in
-    (λ i. set (set (tags_are i) place left_tag) next ((tag_is ∙ ap (λ w. cond w (tag_word true a.request.access (bank_number a.request.place)) left_tag) (sym does)) i))
+    (λ i. set (set (tags_are i) place served_tag) next ((tag_is ∙ ap (λ w. cond w (tag_word true a.request.access (bank_number a.request.place)) served_tag) (sym does)) i))
     ∙ sym (tag_unblocked log place next (marks_next log place next within waits first is))
 
 pub blocked_fewer : (log : List Arrived) (place next : ℕ) → place < length log → waits_at log place ≡ true → is_marked (get_or (eligible_column log) place 0) ≡ true → IsNextAt log place next

@@ -4,7 +4,8 @@ use Rattle.std.proofs.lemmas.Bool.{cases_lt, cond-true, cond-false, lt-ltb, le-l
 use Rattle.std.specs.List.{position, position_or_len}
 use Rattle.std.specs.Option.{option_map}
 use Rattle.sim_base.specs.Scheduling.{or_else}
-use Rattle.queue.specs.Moves.{before, earlier}
+use Rattle.queue.specs.Moves.{before}
+use Rattle.sim_base.specs.Earlier.{earlier}
 
 place_next : (b : Bool) (place len : ℕ)
     → cond (ltb (cond (not b) (1 + place) 0) (suc len)) (Some (cond (not b) (1 + place) 0)) None ≡ cond b (Some 0) (option_map suc (cond (ltb place len) (Some place) None))

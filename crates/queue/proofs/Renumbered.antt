@@ -7,12 +7,13 @@ use Rattle.std.proofs.Math.Bool.{or-false}
 use Rattle.sim_base.specs.Places.{is_line}
 use Rattle.sim_base.specs.declared.place.Place.{Place}
 use Rattle.queue.specs.declared.request_log.Arrived.{Arrived}
-use Rattle.queue.specs.Marks.{mark, is_marked}
+use Rattle.queue.specs.Marks.{is_marked}
+use Rattle.sim_base.specs.Counts.{one_if}
 use Rattle.queue.specs.Log.{waiting, eligible_column}
 use Rattle.queue.specs.Columns.{tag_of, tags_of, tag_column, is_blocked, blocked_count, waiting_items}
 use Rattle.queue.proofs.Eligible.{asked_with, marks_after, eligible_is}
 
--- those that wait all wait
+-- in the log of the requests that wait, all wait
 pub waiting_twice : (log : List Arrived) → waiting (waiting log) ≡ waiting log
 unfolding waiting
 waiting_twice [] = refl
@@ -32,7 +33,7 @@ marks_waiting : (asked : Place → Bool) (log : List Arrived) → marks_after as
 unfolding waiting
 marks_waiting asked [] = refl
 marks_waiting asked (a ∷ log) =
-    let word = mark (a.waits && not (asked a.request.place)) in
+    let word = one_if (a.waits && not (asked a.request.place)) in
     let rest = marks_after (asked_with asked a) log in
     elim (cases_Bool a.waits) [
       | inl does ↦

@@ -9,15 +9,15 @@ use Rattle.queue.specs.declared.request_log.Arrived.{Arrived}
 use Rattle.queue.specs.Marks.{is_marked}
 use Rattle.queue.specs.Log.{absent, all_requests, waiting_requests, eligible_column}
 use Rattle.queue.proofs.Eligible.{length-eligible, marked_waits}
-use Rattle.queue.specs.Candidates.{passes, entries, first_place}
-use Rattle.queue.specs.Moves.{before, NoneBefore}
+use Rattle.queue.specs.Candidates.{passes, marked_requests, first_place}
+use Rattle.queue.specs.Moves.{before, NonePassesBefore}
 use Rattle.queue.proofs.Positions.{position_here, position_none, before_past}
-use Rattle.queue.proofs.Entries.{length-entries, none_before}
+use Rattle.queue.proofs.MarkedRequests.{length-marked_requests, none_before}
 use Rattle.queue.proofs.Waits.{waiting_request_at}
 
 -- what is tested at a place
 pub here_is : (test : Request → Bool) (log : List Arrived) (place : ℕ) (a : Arrived) (d : Request × ℕ) → place < length log
-    → passes test (get_or (entries log) place d) ≡ (is_marked (get_or (eligible_column log) place 0) && test (get_or log place a).request)
+    → passes test (get_or (marked_requests log) place d) ≡ (is_marked (get_or (eligible_column log) place 0) && test (get_or log place a).request)
 here_is test log place a d within =
     let long : place < length (eligible_column log) = omega (arith, length-eligible log) in
     let all : place < length (all_requests log) = omega (arith, length-map log (λ (x : Arrived). x.request)) in
@@ -25,33 +25,33 @@ here_is test log place a d within =
     let marked : get_or (eligible_column log) place d.1 ≡ get_or (eligible_column log) place 0 = get_or_default (eligible_column log) place d.1 0 long in
     ap (passes test) (get_or-zip (all_requests log) (eligible_column log) place d all long) ∙ (λ i. is_marked (marked i) && test (request i))
 
--- one place more at which none passes
-pub none_more : (test : Request → Bool) (log : List Arrived) (place : ℕ) → NoneBefore test log place
-    → ((d : Request × ℕ) → place < length log → passes test (get_or (entries log) place d) ≡ false) → NoneBefore test log (place + 1)
+-- no request before a place passes a test, nor does the one at the place
+pub none_more : (test : Request → Bool) (log : List Arrived) (place : ℕ) → NonePassesBefore test log place
+    → ((d : Request × ℕ) → place < length log → passes test (get_or (marked_requests log) place d) ≡ false) → NonePassesBefore test log (place + 1)
 none_more test log place fails here k d below exists = elim (cases_lt k place) [
   | inl sooner ↦ fails k d sooner exists
-  | inr late ↦ let same : place ≡ k = omega arith in subst (λ n. passes test (get_or (entries log) n d) ≡ false) same (here d (omega arith))
+  | inr late ↦ let same : place ≡ k = omega arith in subst (λ n. passes test (get_or (marked_requests log) n d) ≡ false) same (here d (omega arith))
 ]
 
-pub found_here : (test : Request → Bool) (log : List Arrived) (place : ℕ) → place < length log → NoneBefore test log place
-    → ((d : Request × ℕ) → passes test (get_or (entries log) place d) ≡ true) → Some place ≡ first_place test log
+pub found_here : (test : Request → Bool) (log : List Arrived) (place : ℕ) → place < length log → NonePassesBefore test log place
+    → ((d : Request × ℕ) → passes test (get_or (marked_requests log) place d) ≡ true) → Some place ≡ first_place test log
 found_here test log place within fails here =
-    sym (position_here (passes test) (entries log) place (omega (arith, length-entries log)) (λ k d sooner exists. fails k d sooner (omega (arith, length-entries log))) here)
+    sym (position_here (passes test) (marked_requests log) place (omega (arith, length-marked_requests log)) (λ k d sooner exists. fails k d sooner (omega (arith, length-marked_requests log))) here)
 
-pub found_none : (test : Request → Bool) (log : List Arrived) (place : ℕ) → length log ≤ place → NoneBefore test log place → None ≡ first_place test log
+pub found_none : (test : Request → Bool) (log : List Arrived) (place : ℕ) → length log ≤ place → NonePassesBefore test log place → None ≡ first_place test log
 found_none test log place all fails =
-    sym (position_none (passes test) (entries log) (λ k d exists. fails k d (omega (arith, length-entries log)) (omega (arith, length-entries log))))
+    sym (position_none (passes test) (marked_requests log) (λ k d exists. fails k d (omega (arith, length-marked_requests log)) (omega (arith, length-marked_requests log))))
 
 pub and_weaker : (m a b : Bool) → (b ≡ false → a ≡ false) → (m && b) ≡ false → (m && a) ≡ false
 and_weaker true a b weaker none = weaker none
 and_weaker false a b weaker none = refl
 
 -- none passes a test that asks for more
-pub none_narrower : (p q : Request → Bool) (log : List Arrived) (n : ℕ) → ((x : Request) → q x ≡ false → p x ≡ false) → NoneBefore q log n → NoneBefore p log n
+pub none_narrower : (p q : Request → Bool) (log : List Arrived) (n : ℕ) → ((x : Request) → q x ≡ false → p x ≡ false) → NonePassesBefore q log n → NonePassesBefore p log n
 none_narrower p q log n weaker fails k d sooner exists =
-    let e = get_or (entries log) k d in and_weaker (is_marked e.1) (p e.0) (q e.0) (weaker e.0) (fails k d sooner exists)
+    let e = get_or (marked_requests log) k d in and_weaker (is_marked e.1) (p e.0) (q e.0) (weaker e.0) (fails k d sooner exists)
 
-pub none_before_first : (test : Request → Bool) (log : List Arrived) (n : ℕ) → Some n ≡ first_place test log → NoneBefore test log n
+pub none_before_first : (test : Request → Bool) (log : List Arrived) (n : ℕ) → Some n ≡ first_place test log → NonePassesBefore test log n
 none_before_first test log n is = none_before test log n (subst (λ o. before n o ≡ None) is (before_past n n (omega arith)))
 
 -- where none passes a test, none passes one that asks for more
@@ -63,7 +63,7 @@ none_narrower_all p q log weaker is =
 -- whether a request at a place may be served and passes a test, where the test was made of the request that was read
 -- there
 pub tested : (test : Request → Bool) (log xs : List Arrived) (place : ℕ) (e : Arrived) (wanted : Bool) (d : Request × ℕ) → place < length log → xs ≡ log
-    → wanted ≡ test (get_or xs place e).request → passes test (get_or (entries log) place d) ≡ (is_marked (get_or (eligible_column log) place 0) && wanted)
+    → wanted ≡ test (get_or xs place e).request → passes test (get_or (marked_requests log) place d) ≡ (is_marked (get_or (eligible_column log) place 0) && wanted)
 tested test log xs place e wanted d within same is =
     here_is test log place e d within
     ∙ ap (λ b. is_marked (get_or (eligible_column log) place 0) && b) (ap (λ ys. test (get_or ys place e).request) (sym same) ∙ sym is)
@@ -82,7 +82,7 @@ none_waits test log fails =
     unserved false t fails = refl
 
 pub none_everywhere : (test : Request → Bool) (log : List Arrived) → ((x : Request) → test x ≡ false) → None ≡ first_place test log
-none_everywhere test log fails = found_none test log (length log) (omega arith) (λ k d sooner exists. let e = get_or (entries log) k d in ap (λ b. is_marked e.1 && b) (fails e.0) ∙ never (is_marked e.1))
+none_everywhere test log fails = found_none test log (length log) (omega arith) (λ k d sooner exists. let e = get_or (marked_requests log) k d in ap (λ b. is_marked e.1 && b) (fails e.0) ∙ never (is_marked e.1))
   where
     never : (t : Bool) → (t && false) ≡ false
     never true = refl

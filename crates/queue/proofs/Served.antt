@@ -7,7 +7,8 @@ use Rattle.sim_base.specs.Places.{is_line}
 use Rattle.sim_base.specs.Scheduling.{asks_for_line}
 use Rattle.sim_base.specs.declared.place.Place.{Place}
 use Rattle.queue.specs.declared.request_log.Arrived.{Arrived}
-use Rattle.queue.specs.Marks.{mark, is_marked}
+use Rattle.queue.specs.Marks.{is_marked}
+use Rattle.sim_base.specs.Counts.{one_if}
 use Rattle.queue.specs.Log.{absent, waiting, waiting_requests, eligible_column, is_for, served_at, waits_at}
 use Rattle.queue.proofs.SameLine.{line_same, line_apart, line_itself}
 use Rattle.queue.proofs.Waiting.{asks_first, asks_some}
@@ -33,7 +34,7 @@ unblocked_here : (asked : Place → Bool) (p : Place) (b : Arrived) (log : List 
 unblocked_here asked p b log before here =
     let parts = and_parts b.waits (is_line b.request.place p) here in
     let place_is : b.request.place ≡ p = line_same b.request.place p parts.1 in
-    let head : 1 ≡ mark (b.waits && not (asked b.request.place)) = λ i. mark (sym parts.0 i && not ((sym before ∙ ap asked (sym place_is)) i)) in
+    let head : 1 ≡ one_if (b.waits && not (asked b.request.place)) = λ i. one_if (sym parts.0 i && not ((sym before ∙ ap asked (sym place_is)) i)) in
     let rest : (q : Place) → asked_with (with_line asked p) b q ≡ asked_with asked b q =
     λ q.
     (λ i. (asked q || is_line (sym place_is i) q) || (parts.0 i && is_line b.request.place q))
@@ -42,12 +43,12 @@ unblocked_here asked p b log before here =
     ∙ ap (λ w. asked q || (w && is_line b.request.place q)) (sym parts.0) in
     λ i. head i ∷ marks_after (λ q. rest q i) log
 
-unblocked_head : (asked : Place → Bool) (p : Place) (b : Arrived) → is_for p b ≡ false → mark (b.waits && not (with_line asked p b.request.place)) ≡ mark (b.waits && not (asked b.request.place))
+unblocked_head : (asked : Place → Bool) (p : Place) (b : Arrived) → is_for p b ≡ false → one_if (b.waits && not (with_line asked p b.request.place)) ≡ one_if (b.waits && not (asked b.request.place))
 unblocked_head asked p b apart = elim (cases_Bool b.waits) [
   | inl does ↦
       let other : is_line b.request.place p ≡ false = ap (λ w. w && is_line b.request.place p) (sym does) ∙ apart in
-      ap (λ t. mark (b.waits && not (asked b.request.place || t))) (line_apart b.request.place p other) ∙ ap (λ t. mark (b.waits && not t)) (or-false (asked b.request.place))
-  | inr none ↦ ap (λ w. mark (w && not (with_line asked p b.request.place))) none ∙ ap (λ w. mark (w && not (asked b.request.place))) (sym none)
+      ap (λ t. one_if (b.waits && not (asked b.request.place || t))) (line_apart b.request.place p other) ∙ ap (λ t. one_if (b.waits && not t)) (or-false (asked b.request.place))
+  | inr none ↦ ap (λ w. one_if (w && not (with_line asked p b.request.place))) none ∙ ap (λ w. one_if (w && not (asked b.request.place))) (sym none)
 ]
 
 -- Where the line of a request that goes was not asked for before, the next one for it becomes eligible. It stands at
@@ -62,7 +63,7 @@ unblocked asked p (b ∷ log) (suc k) before none here =
     let swapped : (q : Place) → asked_with (with_line asked p) b q ≡ with_line (asked_with asked b) p q =
     λ q. or_swap (asked q) (is_line p q) (b.waits && is_line b.request.place q) in
     (λ i. unblocked_head asked p b apart i ∷ set (marks_after (λ q. swapped q i) log) k 1)
-    ∙ ap (λ ms. mark (b.waits && not (asked b.request.place)) ∷ ms)
+    ∙ ap (λ ms. one_if (b.waits && not (asked b.request.place)) ∷ ms)
     (unblocked (asked_with asked b) p log k later (λ j below. none (suc j) (omega (arith, below))) (λ within. here (omega (arith, within))))
 
 -- the marks of a log round a place whose request is served
@@ -77,21 +78,21 @@ cleared_marks : (older later : List Arrived) (a : Arrived) (place : ℕ) → len
     → set (eligible_column (older ++ a ∷ later)) place 0
     ≡ marks_after (λ p. false) older ++ 0 ∷ marks_after (with_line (λ p. asks_for_line p (waiting_requests older)) a.request.place) later
 cleared_marks older later a place long waits =
-    let word = mark (a.waits && not (asks_for_line a.request.place (waiting_requests older))) in
+    let word = one_if (a.waits && not (asks_for_line a.request.place (waiting_requests older))) in
     let front = marks_after (λ p. false) older in
     let rest = marks_after (λ p. asks_for_line p (waiting_requests older) || (a.waits && is_line a.request.place p)) later in
     ap (λ ms. set ms place 0) (split_marks older later a)
     ∙ set_at front word rest 0 place (length-marks (λ p. false) older ∙ long)
     ∙ (λ i. front ++ 0 ∷ marks_after (λ p. asks_for_line p (waiting_requests older) || (waits i && is_line a.request.place p)) later)
 
-pub marked_mark : (b : Bool) → is_marked (mark b) ≡ b
+pub marked_mark : (b : Bool) → is_marked (one_if b) ≡ b
 marked_mark true = refl
 marked_mark false = refl
 
 marked_there : (older later : List Arrived) (a : Arrived) (place : ℕ) → length older ≡ place
     → is_marked (get_or (eligible_column (older ++ a ∷ later)) place 0) ≡ (a.waits && not (asks_for_line a.request.place (waiting_requests older)))
 marked_there older later a place long =
-    let word = mark (a.waits && not (asks_for_line a.request.place (waiting_requests older))) in
+    let word = one_if (a.waits && not (asks_for_line a.request.place (waiting_requests older))) in
     let rest = marks_after (λ p. asks_for_line p (waiting_requests older) || (a.waits && is_line a.request.place p)) later in
     ap (λ ms. is_marked (get_or ms place 0)) (split_marks older later a)
     ∙ ap is_marked (get_or_at (marks_after (λ p. false) older) word rest 0 place (length-marks (λ p. false) older ∙ long))
@@ -188,7 +189,7 @@ none_marked asked p (a ∷ log) before none = elim (cases_Bool (is_for p a)) [
   | inl here ↦
       let parts = and_parts a.waits (is_line a.request.place p) here in
       let fresh : asked a.request.place ≡ false = ap asked (line_same a.request.place p parts.1) ∙ before in
-      let marked : is_marked (mark (a.waits && not (asked a.request.place))) ≡ true = λ i. is_marked (mark (parts.0 i && not (fresh i))) in
+      let marked : is_marked (one_if (a.waits && not (asked a.request.place))) ≡ true = λ i. is_marked (one_if (parts.0 i && not (fresh i))) in
       absurd (false≢true (sym (none 0 (omega arith) here) ∙ marked))
   | inr apart ↦
       let later : asked_with asked a p ≡ false = ap (λ t. t || is_for p a) before ∙ apart in

@@ -15,7 +15,7 @@ use Rattle.queue.specs.declared.bank_candidates.all_banks.BankCandidates.{BankCa
 use Rattle.queue.specs.Stands.{candidates_of_bank, candidates_to}
 use Rattle.queue.specs.Candidates.{asks, first_place, AreCandidates}
 use Rattle.queue.specs.Moves.{before}
-use Rattle.queue.proofs.Entries.{none_before}
+use Rattle.queue.proofs.MarkedRequests.{none_before}
 use Rattle.queue.proofs.Searches.{here_is, none_narrower_all, found_none}
 use Rattle.queue.proofs.Waits.{request_at}
 
@@ -28,7 +28,7 @@ oldest_is access.Read log bank candidates first = first.reads_are.oldest_is
 no_some : (o : Option ℕ) → None ≡ o → is_some o ≡ true → ⊥
 no_some o none is = false≢true (ap is_some none ∙ is)
 
--- where a test passes, so does one that asks for less
+-- where some request passes a test, some request passes a test that asks for less
 pub some_wider : (p q : Request → Bool) (log : List Arrived) → ((x : Request) → q x ≡ false → p x ≡ false) → is_some (first_place p log) ≡ true → is_some (first_place q log) ≡ true
 some_wider p q log weaker is = known (first_place q log) refl
   where

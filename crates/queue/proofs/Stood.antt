@@ -7,13 +7,14 @@ use Rattle.std.specs.List.{All, position, zip}
 use Rattle.std.proofs.Math.Bool.{and-false}
 use Rattle.sim_base.specs.declared.message.Access.{Access}
 use Rattle.sim_base.specs.declared.message.Access.TheVariants as access
-use Rattle.sim_base.specs.Places.{is_bank}
+use Rattle.sim_base.specs.Places.{is_bank, bank_at, number_of_bank}
 use Rattle.sim_base.specs.Rules.{is_row}
 use Rattle.sim_base.specs.Scheduling.{asks_for_line, or_else}
 use Rattle.sim_base.specs.declared.message.Request.{Request}
 use Rattle.sim_base.specs.declared.place.BankId.{BankId}
 use Rattle.queue.specs.declared.request_log.Arrived.{Arrived}
-use Rattle.queue.specs.Marks.{is_marked, mark}
+use Rattle.queue.specs.Marks.{is_marked}
+use Rattle.sim_base.specs.Counts.{one_if}
 use Rattle.queue.specs.Log.{absent, waiting, all_requests, waiting_requests, eligible_column, activated_at}
 use Rattle.queue.specs.Columns.{bank_number}
 use Rattle.queue.proofs.Activated.{all_activated, waiting_activated, eligible_activated}
@@ -22,8 +23,8 @@ use Rattle.queue.proofs.Places.{around, all_served}
 use Rattle.queue.proofs.Renumbered.{waiting_twice}
 use Rattle.queue.proofs.Waiting.{waiting_append, waiting_one}
 use Rattle.queue.specs.declared.bank_candidates.all_banks.BankCandidates.{BankCandidates}
-use Rattle.queue.specs.Candidates.{asks, hits, passes, first_place, AreFirst, AreCandidates, RowsFit, access_number, access_number_of, bank_at, number_of}
-use Rattle.queue.specs.Moves.{earlier}
+use Rattle.queue.specs.Candidates.{asks, hits, passes, first_place, AreFirst, AreCandidates, RowsFit, access_number, access_number_of}
+use Rattle.sim_base.specs.Earlier.{earlier}
 use Rattle.queue.specs.Served.{IsServed, AreFirstWith}
 use Rattle.queue.specs.Places.{candidate_in, access_in}
 use Rattle.queue.specs.Sets.{is_in}
@@ -31,7 +32,7 @@ use Rattle.queue.specs.declared.bank_candidates.sets.BankSet.{BankSet}
 use Rattle.std.specs.Option.{is_some}
 use Rattle.queue.specs.Stands.{bank_count, candidates_of_bank, StandsFor, StandsUpTo, with_row, closed_in}
 use Rattle.queue.proofs.BankCandidatesCounted.{AreCounted}
-use Rattle.queue.proofs.Entries.{eligible_append}
+use Rattle.queue.proofs.MarkedRequests.{eligible_append}
 use Rattle.queue.proofs.Joined.{may_follow, access_kept, access_joined}
 use Rattle.queue.proofs.OneBank.{asks_own, wants_access, number_bank, number_access}
 use Rattle.queue.proofs.BankCandidatesServed.{earlier_none, other_candidate}
@@ -116,7 +117,7 @@ joined_stand rows old new older a open_rows place hit long exists short follows 
       ];
     }
 
--- one that is blocked by an older one of its line
+-- the candidates, with a request more that is blocked by an older one of its line
 pub unjoined_stand : (rows : List (Option ℕ)) (words : List ℕ) (older : List Arrived) (a : Arrived) (open_rows : ℕ → Option ℕ)
     → bank_number a.request.place < length rows → a.request.place.row < 2 ^ 32 → may_follow older a ≡ false → AreStanding rows words older open_rows
     → AreStanding rows words (older ++ a ∷ []) open_rows
@@ -128,7 +129,7 @@ unjoined_stand rows words older a open_rows exists short blocked stands = record
       access_kept older a bank access (open_rows bank) (access_in words (access_number bank access)) (ap (λ b. b && asks bank access a.request) blocked) (stands.first bank access there);
 }
 
--- those that wait, with one more
+-- the requests that wait, with one more
 pub waiting_push : (older : List Arrived) (a : Arrived) → a.waits ≡ true → waiting_requests (older ++ a ∷ []) ≡ waiting_requests older ++ a.request ∷ []
 waiting_push older a waits = waiting_append older (a ∷ []) ∙ ap (λ rs. waiting_requests older ++ rs) (waiting_one a ∙ ap (λ b. cond b (a.request ∷ []) []) waits)
 
@@ -140,7 +141,7 @@ mark_read log place exists =
     let long : length older ≡ place = length-take-le place log (omega arith) in
     ap (λ xs. is_marked (get_or (eligible_column xs) place 0)) (around log place absent exists)
     ∙ ap (λ ms. is_marked (get_or ms place 0)) (eligible_append older (a ∷ later))
-    ∙ ap is_marked (get_or_at (eligible_column older) (mark (may_follow older a)) (marks_after (asked_with (λ p. asks_for_line p (waiting_requests older)) a) later) 0 place (length-eligible older ∙ long))
+    ∙ ap is_marked (get_or_at (eligible_column older) (one_if (may_follow older a)) (marks_after (asked_with (λ p. asks_for_line p (waiting_requests older)) a) later) 0 place (length-eligible older ∙ long))
     ∙ marked_mark (may_follow older a)
 
 -- where one request was served, and the candidates of its access have left it
@@ -261,7 +262,7 @@ activated_stand candidates log place open_rows stands =
           record { oldest_is = first.oldest_is ∙ same (asks bank access); hit_is = first.hit_is ∙ same (hits bank access (open_rows bank)) };
     }) (subst (AreCounted candidates.counts.items) (sym (waiting_activated log place)) stands.counts_are)
 
--- one bank that is opened or closed
+-- the candidates, once the row of one bank is opened or closed
 pub row_stand : (rows : List (Option ℕ)) (old new : List ℕ) (log : List Arrived) (open_rows : ℕ → Option ℕ) (number : ℕ) (row : Option ℕ) → number < length rows
     → ((access : Access) → AreFirst log number access row (access_in new (access_number number access)))
     → ((other : ℕ) (access : Access) → (other ≡ number → ⊥) → access_in new (access_number other access) ≡ access_in old (access_number other access))
@@ -344,17 +345,17 @@ pub closed_all : (number rank : ℕ) (open_rows : ℕ → Option ℕ) (bank : �
 closed_all number rank open_rows bank below = ap (λ b. cond (b && eqb (bank / 16) rank) None (open_rows bank)) (lt-ltb bank number below)
 
 -- the bank with the number of another
-pub bank_named : (n : ℕ) (b : BankId) → b.group < 4 → b.bank < 4 → eqb n (number_of b) ≡ is_bank (bank_at n) b
-bank_named n b group bank = elim (cases_eq n (number_of b)) [
+pub bank_named : (n : ℕ) (b : BankId) → b.group < 4 → b.bank < 4 → eqb n (number_of_bank b) ≡ is_bank (bank_at n) b
+bank_named n b group bank = elim (cases_eq n (number_of_bank b)) [
   | inl same ↦
       let rank_is : n / 16 ≡ b.rank = omega arith in
       let group_is : n / 4 % 4 ≡ b.group = omega arith in
       let bank_is : n % 4 ≡ b.bank = omega arith in
-      eq-eqb n (number_of b) same
+      eq-eqb n (number_of_bank b) same
       ∙ sym (and_from (eqb (n / 16) b.rank && eqb (n / 4 % 4) b.group) (eqb (n % 4) b.bank)
       (and_from (eqb (n / 16) b.rank) (eqb (n / 4 % 4) b.group) (eq-eqb (n / 16) b.rank rank_is) (eq-eqb (n / 4 % 4) b.group group_is)) (eq-eqb (n % 4) b.bank bank_is))
   | inr apart ↦
-      ne_eqb n (number_of b) apart
+      ne_eqb n (number_of_bank b) apart
       ∙ sym (false_from_ne_true (is_bank (bank_at n) b) (λ same.
       let bank_part = and_parts (eqb (n / 16) b.rank && eqb (n / 4 % 4) b.group) (eqb (n % 4) b.bank) same in
       let group_part = and_parts (eqb (n / 16) b.rank) (eqb (n / 4 % 4) b.group) bank_part.0 in
@@ -381,14 +382,6 @@ first_stand candidates banks closed counts none = from_parts candidates [] (λ b
   opened = λ bank exists. none_open candidates.rows.items banks bank closed;
   first = λ bank access exists. record { oldest_is = none (access_number bank access) false; hit_is = none (access_number bank access) true };
 }) (λ number exists. ap (λ xs. get_or xs number 0) counts ∙ get_or-replicate (2 * banks) number 0 0 (omega (arith, ap length counts, length-replicate {A = ℕ} (2 * banks) 0)))
-
--- the bank with the number of a bank
-pub bank_at_number : (b : BankId) → b.group < 4 → b.bank < 4 → bank_at (number_of b) ≡ b
-bank_at_number b group_in bank_in =
-    let rank : ((b.rank * 4 + b.group) * 4 + b.bank) / 16 ≡ b.rank = omega arith in
-    let group : ((b.rank * 4 + b.group) * 4 + b.bank) / 4 % 4 ≡ b.group = omega arith in
-    let own : ((b.rank * 4 + b.group) * 4 + b.bank) % 4 ≡ b.bank = omega arith in
-    λ i. record { rank = rank i; group = group i; bank = own i }
 
 -- the banks in which a row is open, once that of one is another
 pub opened_are : (rows : List (Option ℕ)) (old new : BankSet) (number : ℕ) (row : Option ℕ) → number < length rows → ((k : ℕ) → is_in old k ≡ is_some (get_or rows k None))

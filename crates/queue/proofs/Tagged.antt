@@ -8,11 +8,11 @@ use Rattle.sim_base.specs.declared.message.Access.TheVariants as access
 use Rattle.queue.specs.declared.request_log.Arrived.{Arrived}
 use Rattle.queue.specs.Marks.{write_bit, is_marked}
 use Rattle.queue.specs.Log.{absent, eligible_column}
-use Rattle.queue.specs.Columns.{bank_number, tag_word, left_tag, tag_of, tag_column}
+use Rattle.queue.specs.Columns.{bank_number, tag_word, served_tag, tag_of, tag_column}
 use Rattle.queue.proofs.Eligible.{marked_waits}
 use Rattle.queue.proofs.Tags.{length-tags, tag_there}
 use Rattle.queue.specs.Candidates.{asks, wants}
-use Rattle.queue.specs.Moves.{NoneBefore}
+use Rattle.queue.specs.Moves.{NonePassesBefore}
 use Rattle.queue.proofs.OneBank.{same_access}
 use Rattle.queue.proofs.Searches.{here_is, and_weaker}
 
@@ -32,7 +32,7 @@ asked_tag bank access log k exists marked asked =
     let bank_is : bank_number a.request.place ≡ bank = eqb-true (bank_number a.request.place) bank parts.0 in
     let access_is : a.request.access ≡ access = same_access access a.request.access parts.1 in
     let waits : a.waits ≡ true = marked_waits log k absent exists marked in
-    tag_there log k absent exists ∙ (λ i. cond (waits i) (tag_word (marked i) (access_is i) (bank_is i)) left_tag)
+    tag_there log k absent exists ∙ (λ i. cond (waits i) (tag_word (marked i) (access_is i) (bank_is i)) served_tag)
 
 -- where the tag is another one, none stands that may be served and asks for the bank
 untagged : (bank : ℕ) (access : Access) (log : List Arrived) (k : ℕ) → k < length log → (eqb (get_or (tag_column log) k 0) (tag_word true access bank) ≡ true → ⊥)
@@ -46,8 +46,8 @@ untagged bank access log k exists apart =
 
 -- the requests whose tags are passed over are not wanted
 pub none_tagged : (bank : ℕ) (access : Access) (row : Option ℕ) (log : List Arrived) (tags left : List ℕ) (tag at end : ℕ) → tags ≡ tag_column log → left ≡ drop at tags
-    → tag ≡ tag_word true access bank → NoneBefore (wants bank access row) log at → ((k : ℕ) → 0 ≤ k → k < end → eqb (get_or left k 0) tag ≡ true → ⊥)
-    → NoneBefore (wants bank access row) log (at + end)
+    → tag ≡ tag_word true access bank → NonePassesBefore (wants bank access row) log at → ((k : ℕ) → 0 ≤ k → k < end → eqb (get_or left k 0) tag ≡ true → ⊥)
+    → NonePassesBefore (wants bank access row) log (at + end)
 none_tagged bank access row log tags left tag at end is left_is tag_is none others k d below exists = elim (cases_lt k at) [
   | inl sooner ↦ none k d sooner exists
   | inr late ↦
@@ -77,9 +77,9 @@ told_of : (e : Bool) (a : Arrived) (v : Access) (b : ℕ) → tag_of e a ≡ tag
 told_of e a v b same = elim (cases_Bool a.waits) [
   | inl waits ↦
       told e a.request.access v (bank_number a.request.place) b
-      (sym (ap (λ w. cond w (tag_word e a.request.access (bank_number a.request.place)) left_tag) waits) ∙ same)
+      (sym (ap (λ w. cond w (tag_word e a.request.access (bank_number a.request.place)) served_tag) waits) ∙ same)
   | inr served ↦
-      absurd (apart (write_bit v) (sym (ap (λ w. cond w (tag_word e a.request.access (bank_number a.request.place)) left_tag) served) ∙ same))
+      absurd (apart (write_bit v) (sym (ap (λ w. cond w (tag_word e a.request.access (bank_number a.request.place)) served_tag) served) ∙ same))
 ]
   where
     apart : (n : ℕ) → 127 ≡ (1 * 2 + n) * 64 + b % 64 → ⊥

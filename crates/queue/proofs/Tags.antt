@@ -8,7 +8,7 @@ use Rattle.sim_base.specs.declared.message.Access.{Access}
 use Rattle.queue.specs.declared.request_log.Arrived.{Arrived}
 use Rattle.queue.specs.Marks.{is_marked}
 use Rattle.queue.specs.Log.{absent, eligible_column}
-use Rattle.queue.specs.Columns.{bank_number, tag_word, left_tag, tag_of, tag_column}
+use Rattle.queue.specs.Columns.{bank_number, tag_word, served_tag, tag_of, tag_column}
 use Rattle.queue.proofs.Eligible.{length-eligible, marked_waits}
 
 pub length-tags : (log : List Arrived) → length (tag_column log) ≡ length log
@@ -30,10 +30,10 @@ untold_word access.Write bank = let small : bank % 64 < 64 = mod-lt bank (omega 
 untold_word access.Read bank = let small : bank % 64 < 64 = mod-lt bank (omega arith) in lt-leb 128 (tag_word false access.Read bank) (omega (arith, small))
 
 told_of : (a : Arrived) (eligible : Bool) → (eligible ≡ true → a.waits ≡ true) → leb 128 (tag_of eligible a) ≡ eligible
-told_of a true waits = ap (λ b. leb 128 (cond b (tag_word true a.request.access (bank_number a.request.place)) left_tag)) (waits refl) ∙ told_word a.request.access (bank_number a.request.place)
+told_of a true waits = ap (λ b. leb 128 (cond b (tag_word true a.request.access (bank_number a.request.place)) served_tag)) (waits refl) ∙ told_word a.request.access (bank_number a.request.place)
 told_of a false waits = elim (cases_Bool a.waits) [
-  | inl does ↦ ap (λ b. leb 128 (cond b (tag_word false a.request.access (bank_number a.request.place)) left_tag)) does ∙ untold_word a.request.access (bank_number a.request.place)
-  | inr not ↦ ap (λ b. leb 128 (cond b (tag_word false a.request.access (bank_number a.request.place)) left_tag)) not
+  | inl does ↦ ap (λ b. leb 128 (cond b (tag_word false a.request.access (bank_number a.request.place)) served_tag)) does ∙ untold_word a.request.access (bank_number a.request.place)
+  | inr not ↦ ap (λ b. leb 128 (cond b (tag_word false a.request.access (bank_number a.request.place)) served_tag)) not
 ]
 
 any-default : (xs : List ℕ) (k d e : ℕ) → k < length xs → get_or xs k d ≡ get_or xs k e

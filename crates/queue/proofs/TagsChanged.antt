@@ -6,9 +6,10 @@ use Rattle.std.specs.List.{zip, count_by}
 use Rattle.sim_base.specs.Scheduling.{asks_for_line}
 use Rattle.sim_base.specs.declared.message.Request.{Request}
 use Rattle.queue.specs.declared.request_log.Arrived.{Arrived}
-use Rattle.queue.specs.Marks.{mark, is_marked}
+use Rattle.queue.specs.Marks.{is_marked}
+use Rattle.sim_base.specs.Counts.{one_if}
 use Rattle.queue.specs.Log.{absent, waiting_requests, eligible_column, arrived_now, served_at, waits_at}
-use Rattle.queue.specs.Columns.{tag_of, tags_of, tag_column, left_tag, is_blocked, blocked_count}
+use Rattle.queue.specs.Columns.{tag_of, tags_of, tag_column, served_tag, is_blocked, blocked_count}
 use Rattle.queue.proofs.Eligible.{eligible_push, length-eligible}
 use Rattle.queue.proofs.Served.{marked_mark}
 use Rattle.queue.proofs.Renumbered.{weight}
@@ -26,7 +27,7 @@ unfolding tag_column
 tag_push log r =
     let fresh = not (asks_for_line r.place (waiting_requests log)) in
     ap (tags_of (log ++ arrived_now r ∷ [])) (eligible_push log (arrived_now r))
-    ∙ tags_push log (eligible_column log) (arrived_now r) (mark fresh) (sym (length-eligible log))
+    ∙ tags_push log (eligible_column log) (arrived_now r) (one_if fresh) (sym (length-eligible log))
     ∙ ap (λ b. tags_of log (eligible_column log) ++ tag_of b (arrived_now r) ∷ []) (marked_mark fresh)
 
 tags_set : (log : List Arrived) (marks : List ℕ) (n : ℕ) (a : Arrived) (m : ℕ) → tags_of (set log n a) (set marks n m) ≡ set (tags_of log marks) n (tag_of (is_marked m) a)
@@ -40,13 +41,13 @@ tags_marked : (log : List Arrived) (marks : List ℕ) (n : ℕ) (d : Arrived) �
 tags_marked log marks n d = ap (λ l. tags_of l (set marks n 1)) (sym (set-get_or log n d)) ∙ tags_set log marks n (get_or log n d) 1
 
 -- the tags once a request is served and no other one changes
-pub tag_left : (log : List Arrived) (place : ℕ) → eligible_column (served_at log place) ≡ set (eligible_column log) place 0 → tag_column (served_at log place) ≡ set (tag_column log) place left_tag
+pub tag_left : (log : List Arrived) (place : ℕ) → eligible_column (served_at log place) ≡ set (eligible_column log) place 0 → tag_column (served_at log place) ≡ set (tag_column log) place served_tag
 unfolding tag_column
 tag_left log place marks = ap (tags_of (served_at log place)) marks ∙ tags_set log (eligible_column log) place _ 0
 
 -- the tags once a request is served and the next one for its line is no longer blocked
 pub tag_unblocked : (log : List Arrived) (place next : ℕ) → eligible_column (served_at log place) ≡ set (set (eligible_column log) place 0) next 1
-    → tag_column (served_at log place) ≡ set (set (tag_column log) place left_tag) next (tag_of true (get_or (served_at log place) next absent))
+    → tag_column (served_at log place) ≡ set (set (tag_column log) place served_tag) next (tag_of true (get_or (served_at log place) next absent))
 unfolding tag_column
 tag_unblocked log place next marks =
     let left = served_at log place in
@@ -60,17 +61,17 @@ zip_push [] (n ∷ marks) a m same = absurd (omega arith)
 zip_push (b ∷ log) [] a m same = absurd (omega arith)
 zip_push (b ∷ log) (n ∷ marks) a m same = ap (λ es. (b, n) ∷ es) (zip_push log marks a m (omega arith))
 
-blocked_mark : (asked : Bool) → cond {A = ℕ} (not (is_marked (mark (not asked)))) 1 0 ≡ cond asked 1 0
+blocked_mark : (asked : Bool) → cond {A = ℕ} (not (is_marked (one_if (not asked)))) 1 0 ≡ cond asked 1 0
 blocked_mark true = refl
 blocked_mark false = refl
 
--- one that arrives is blocked where its line was asked for
+-- a request that arrives is blocked where its line was asked for
 pub blocked_push : (log : List Arrived) (r : Request) → blocked_count (log ++ arrived_now r ∷ []) ≡ blocked_count log + cond (asks_for_line r.place (waiting_requests log)) 1 0
 blocked_push log r =
     let asked = asks_for_line r.place (waiting_requests log) in
     ap (λ ms. count_by is_blocked (zip (log ++ arrived_now r ∷ []) ms)) (eligible_push log (arrived_now r))
-    ∙ ap (count_by is_blocked) (zip_push log (eligible_column log) (arrived_now r) (mark (not asked)) (sym (length-eligible log)))
-    ∙ sum_by_push weight (zip log (eligible_column log)) (arrived_now r, mark (not asked))
+    ∙ ap (count_by is_blocked) (zip_push log (eligible_column log) (arrived_now r) (one_if (not asked)) (sym (length-eligible log)))
+    ∙ sum_by_push weight (zip log (eligible_column log)) (arrived_now r, one_if (not asked))
     ∙ ap (λ n. blocked_count log + n) (blocked_mark asked)
 
 and_none : (b : Bool) → cond {A = ℕ} (b && false) 1 0 ≡ 0
@@ -90,7 +91,7 @@ counted_set (b ∷ log) (w ∷ marks) (suc n) a m within same =
       sum_by-cons weight (b, w) (zip log marks),
     )
 
--- one that is served and was blocked counts no longer
+-- a request that is served and was blocked counts as blocked no longer
 pub blocked_left : (log : List Arrived) (place : ℕ) → place < length log → waits_at log place ≡ true → eligible_column (served_at log place) ≡ set (eligible_column log) place 0
     → blocked_count (served_at log place) + cond (not (is_marked (get_or (eligible_column log) place 0))) 1 0 ≡ blocked_count log
 blocked_left log place within waits marks =
@@ -99,7 +100,7 @@ blocked_left log place within waits marks =
     let one = ap (λ w. cond {A = ℕ} (w && not (is_marked (get_or (eligible_column log) place 0))) 1 0) waits in
     omega (arith, counted, same, one)
 
--- one that is served and was first of its line unblocks the next one for it
+-- a request that is served and was the first of its line unblocks the next one for it
 pub blocked_next : (log : List Arrived) (place next : ℕ) → place < length log → waits_at log place ≡ true → is_marked (get_or (eligible_column log) place 0) ≡ true → place < next → next < length log
     → waits_at log next ≡ true → is_marked (get_or (eligible_column log) next 0) ≡ false
     → eligible_column (served_at log place) ≡ set (set (eligible_column log) place 0) next 1 → blocked_count (served_at log place) + 1 ≡ blocked_count log

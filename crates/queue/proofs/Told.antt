@@ -13,7 +13,7 @@ use Rattle.sim_base.specs.Scheduling.{asks_for_line}
 use Rattle.queue.specs.Marks.{is_marked}
 use Rattle.queue.specs.declared.request_log.Arrived.{Arrived}
 use Rattle.queue.specs.Log.{absent, is_for, waiting_requests, eligible_column}
-use Rattle.queue.specs.Columns.{bank_number, tag_word, left_tag, tag_of, tag_column}
+use Rattle.queue.specs.Columns.{bank_number, tag_word, served_tag, tag_of, tag_column}
 use Rattle.queue.specs.Lines.{is_told, NoneTold, IsFirstTold}
 use Rattle.queue.proofs.SameLine.{line_same}
 use Rattle.queue.proofs.Served.{none_asked}
@@ -43,7 +43,7 @@ none_told eligible place log tags hay from at n read write hay_is read_is write_
       ]
 ]
 
--- one place more
+-- no request is told up to a place, with one place more
 pub none_further : (eligible : Bool) (place : Place) (log : List Arrived) (tags : List ℕ) (from at : ℕ) → NoneTold eligible place log tags from at → is_for place (get_or log at absent) ≡ false
     → NoneTold eligible place log tags from (at + 1)
 none_further eligible place log tags from at none here k low high = elim (cases_lt k at) [
@@ -61,7 +61,7 @@ told_tag eligible place a here =
     let there = line_same a.request.place place parts.1 in
     let word = tag_word eligible a.request.access (bank_number place) in
     let tag : tag_of eligible a ≡ word =
-    (λ i. cond (parts.0 i) (tag_word eligible a.request.access (bank_number (there i))) left_tag) in
+    (λ i. cond (parts.0 i) (tag_word eligible a.request.access (bank_number (there i))) served_tag) in
     and_from (is_for place a) (eqb (tag_of eligible a) word) here (eq-eqb (tag_of eligible a) word tag)
 
 pub told_there : (eligible : Bool) (place : Place) (log : List Arrived) (k : ℕ) → k < length log → is_for place (get_or log k absent) ≡ true → is_marked (get_or (eligible_column log) k 0) ≡ eligible

@@ -6,28 +6,28 @@ use Rattle.sim_base.specs.declared.message.Access.{Access}
 use Rattle.sim_base.specs.declared.message.Access.TheVariants as access
 use Rattle.queue.specs.declared.bank_candidates.sets.BankSet.{BankSet}
 use Rattle.queue.specs.Candidates.{access_number}
-use Rattle.queue.specs.Moves.{earlier}
-use Rattle.queue.specs.Places.{candidate_of, word_of, column, Agree, candidate_in, access_in}
+use Rattle.sim_base.specs.Earlier.{earlier}
+use Rattle.queue.specs.Places.{candidate_of, word_of, set_number, Agree, candidate_in, access_in}
 use Rattle.queue.specs.Sets.{is_in}
 
 -- the word of a bank is that of its access
-pub index_is : (bank : ℕ) (access : Access) (hit : Bool) → 4 * bank + column access hit ≡ 2 * access_number bank access + cond hit 1 0
+pub index_is : (bank : ℕ) (access : Access) (hit : Bool) → 4 * bank + set_number access hit ≡ 2 * access_number bank access + cond hit 1 0
 index_is bank access.Write true = omega arith
 index_is bank access.Write false = omega arith
 index_is bank access.Read true = omega arith
 index_is bank access.Read false = omega arith
 
-pub column_few : (access : Access) (hit : Bool) → column access hit < 4
-column_few access.Write true = omega arith
-column_few access.Write false = omega arith
-column_few access.Read true = omega arith
-column_few access.Read false = omega arith
+pub set_number_few : (access : Access) (hit : Bool) → set_number access hit < 4
+set_number_few access.Write true = omega arith
+set_number_few access.Write false = omega arith
+set_number_few access.Read true = omega arith
+set_number_few access.Read false = omega arith
 
 pub candidate_word : (o : Option ℕ) → candidate_of (word_of o) ≡ o
 candidate_word None = refl
 candidate_word (Some k) = ap candidate_of (add-one k)
 
--- one word written, and its set
+-- one word of a bank is written, and its set
 pub set_agrees : (words : List ℕ) (sets : List BankSet) (bank number : ℕ) (candidate : Option ℕ) (s : BankSet) → length sets ≡ 4 → 4 * bank + 3 < length words → number < 4
     → Agree words sets → is_in s bank ≡ is_some candidate → ((k : ℕ) → k ≢ bank → is_in s k ≡ is_in (get_or sets number s) k)
     → Agree (set words (4 * bank + number) (word_of candidate)) (set sets number s)
@@ -54,31 +54,31 @@ set_agrees words sets bank number candidate s four room few agree same others b 
 
 -- the word that was written is read
 pub read_same : (words : List ℕ) (bank : ℕ) (access : Access) (hit : Bool) (candidate : Option ℕ) → 4 * bank + 3 < length words
-    → candidate_in (set words (4 * bank + column access hit) (word_of candidate)) (access_number bank access) hit ≡ candidate
+    → candidate_in (set words (4 * bank + set_number access hit) (word_of candidate)) (access_number bank access) hit ≡ candidate
 read_same words bank access hit candidate room =
-    let index = 4 * bank + column access hit in
-    let within : index < length words = omega (arith, column_few access hit) in
+    let index = 4 * bank + set_number access hit in
+    let within : index < length words = omega (arith, set_number_few access hit) in
     ap (λ n. candidate_of (get_or (set words index (word_of candidate)) n 0)) (sym (index_is bank access hit))
     ∙ ap candidate_of (get_or-set_same words index (word_of candidate) 0 within) ∙ candidate_word candidate
 
--- and the others are as they were
+-- the words beside the one that was written are as they were
 pub read_beside : (words : List ℕ) (bank : ℕ) (access : Access) (hit : Bool) (word : ℕ)
-    → candidate_in (set words (4 * bank + column access hit) word) (access_number bank access) (not hit) ≡ candidate_in words (access_number bank access) (not hit)
+    → candidate_in (set words (4 * bank + set_number access hit) word) (access_number bank access) (not hit) ≡ candidate_in words (access_number bank access) (not hit)
 read_beside words bank access hit word =
-    ap candidate_of (get_or-set_other words (4 * bank + column access hit) (2 * access_number bank access + cond (not hit) 1 0) word 0 (apart hit))
+    ap candidate_of (get_or-set_other words (4 * bank + set_number access hit) (2 * access_number bank access + cond (not hit) 1 0) word 0 (apart hit))
   where
-    apart : (h : Bool) → 2 * access_number bank access + cond (not h) 1 0 ≡ 4 * bank + column access h → ⊥
+    apart : (h : Bool) → 2 * access_number bank access + cond (not h) 1 0 ≡ 4 * bank + set_number access h → ⊥
     apart true e = let i = index_is bank access true in omega arith
     apart false e = let i = index_is bank access false in omega arith
 
 pub read_other : (words : List ℕ) (bank : ℕ) (access : Access) (hit : Bool) (word number : ℕ) → number ≢ access_number bank access
-    → access_in (set words (4 * bank + column access hit) word) number ≡ access_in words number
+    → access_in (set words (4 * bank + set_number access hit) word) number ≡ access_in words number
 read_other words bank access hit word number other =
-    let index = 4 * bank + column access hit in
+    let index = 4 * bank + set_number access hit in
     let is = index_is bank access hit in
     (λ i. record { oldest = candidate_of (get_or-set_other words index (2 * number + 0) word 0 (apart hit 0 (omega arith) is) i); hit = candidate_of (get_or-set_other words index (2 * number + 1) word 0 (apart hit 1 (omega arith) is) i) })
   where
-    apart : (h : Bool) (n : ℕ) → n < 2 → 4 * bank + column access hit ≡ 2 * access_number bank access + cond h 1 0 → 2 * number + n ≡ 4 * bank + column access hit → ⊥
+    apart : (h : Bool) (n : ℕ) → n < 2 → 4 * bank + set_number access hit ≡ 2 * access_number bank access + cond h 1 0 → 2 * number + n ≡ 4 * bank + set_number access hit → ⊥
     apart true n few is e = other (omega arith)
     apart false n few is e = other (omega arith)
 

@@ -1,24 +1,22 @@
 -- What the candidates of a log stand for.
---     bank_at number, number_of bank      the bank with a number, and the number of a bank
 --     asks bank access r      a request asks to write to a bank, or to read from it
---     hits bank access row r      it does, and for the row that is open there
---     wants bank access row r      it does, and for this row if one is given
---     RowsFit requests      each asks for a row whose number has 32 bits
+--     hits bank access row r      a request asks for a bank and an access, and for the row that is open in the bank
+--     wants bank access row r      a request asks for a bank and an access, and for this row if one is given
+--     RowsFit requests      each request asks for a row whose number has 32 bits
 --     first_place test log      the place of the first request that may be served and passes a test
 --     NonePasses test log      no request that waits passes a test
 --     bank_asked_at log place      the bank of the request at a place
 --     rows_after history      the rows that a list of commands leaves open, by the number of their bank
---     access_number bank access, access_number_of r      the number of a bank and an access, and of those that a request asks for
---     access_count number requests      how many ask for a bank and an access
---     NoneWaits log bank access      none that waits does
+--     access_number bank access, access_number_of r      the number of a bank and an access, and of those of a request
+--     access_count number requests      how many requests ask for a bank and an access
+--     NoneWaits log bank access      no request that waits asks for a bank and an access
 --     AreCandidates log bank candidates      each candidate of a bank is the place of the first such request
-use Rattle.std.specs.Prelude.{◌≡◌, ℕ, ◌+◌, ◌*◌, ◌/◌, ◌%◌, ◌^◌, ◌<◌, ◌==◌, Bool, false, ◌&&◌, List, All, count_by, slice_index_or, position, Option, Some, None}
+use Rattle.std.specs.Prelude.{◌≡◌, ℕ, ◌+◌, ◌*◌, ◌^◌, ◌<◌, ◌==◌, Bool, false, ◌&&◌, List, All, count_by, slice_index_or, position, Option, Some, None}
 use Rattle.std.specs.List.{zip}
 use Rattle.sim_base.specs.Access.{is_access}
 use Rattle.sim_base.specs.declared.message.Access.{Access}
 use Rattle.sim_base.specs.declared.message.Access.TheVariants as access
 use Rattle.sim_base.specs.declared.message.Request.{Request}
-use Rattle.sim_base.specs.declared.place.BankId.{BankId}
 use Rattle.sim_base.specs.Rules.{is_row, open_row}
 use Rattle.sim_base.specs.declared.command.IssuedCommand.{IssuedCommand}
 use Rattle.queue.specs.declared.request_log.Arrived.{Arrived}
@@ -27,14 +25,7 @@ use Rattle.queue.specs.Log.{absent, all_requests, waiting_requests, eligible_col
 use Rattle.queue.specs.Columns.{bank_number}
 use Rattle.queue.specs.declared.bank_candidates.entry.AccessCandidates.{AccessCandidates}
 use Rattle.queue.specs.declared.bank_candidates.entry.CandidatesOfBank.{CandidatesOfBank}
-
--- the bank with a number
-abbrev pub bank_at : ℕ → BankId
-bank_at number = record { rank = number / 16; group = number / 4 % 4; bank = number % 4 }
-
--- the number of a bank
-abbrev pub number_of : BankId → ℕ
-number_of bank = (bank.rank * 4 + bank.group) * 4 + bank.bank
+use Rattle.sim_base.specs.Places.{bank_at}
 
 -- a request asks to write to a bank, or to read from it
 abbrev pub asks : ℕ → Access → Request → Bool
@@ -57,13 +48,13 @@ RowsFit requests = All (λ r. r.place.row < 2 ^ 32) requests
 abbrev pub passes : (Request → Bool) → Request × ℕ → Bool
 passes test e = is_marked e.1 && test e.0
 
--- the requests of all that have arrived, each with its mark
-abbrev pub entries : List Arrived → List (Request × ℕ)
-entries log = zip (all_requests log) (eligible_column log)
+-- all requests that have arrived, each with its mark
+abbrev pub marked_requests : List Arrived → List (Request × ℕ)
+marked_requests log = zip (all_requests log) (eligible_column log)
 
 -- the place of the first request that may be served and passes a test
 abbrev pub first_place : (Request → Bool) → List Arrived → Option ℕ
-first_place test log = position (passes test) (entries log)
+first_place test log = position (passes test) (marked_requests log)
 
 -- no request that waits passes a test
 abbrev pub NonePasses : (Request → Bool) → List Arrived → Type 0
@@ -85,7 +76,7 @@ access_number bank access = bank * 2 + write_bit access
 abbrev pub access_number_of : Request → ℕ
 access_number_of r = access_number (bank_number r.place) r.access
 
--- how many requests ask for a bank and an access
+-- how many requests ask for the bank and the access with a number
 abbrev pub access_count : ℕ → List Request → ℕ
 access_count number requests = count_by (λ r. access_number_of r == number) requests
 
@@ -93,12 +84,12 @@ access_count number requests = count_by (λ r. access_number_of r == number) req
 abbrev pub NoneWaits : List Arrived → ℕ → Access → Type 0
 NoneWaits log bank access = access_count (access_number bank access) (waiting_requests log) ≡ 0
 
--- the candidates of a bank to read or to write, where this row is open
+-- the candidates of a bank to read or to write, where `row` is the open row of the bank, if one is open
 pub record AreFirst (log : List Arrived) (bank : ℕ) (access : Access) (row : Option ℕ) (candidates : AccessCandidates) : Type 0 where
   pub oldest_is : candidates.oldest ≡ first_place (asks bank access) log
   pub hit_is : candidates.hit ≡ first_place (hits bank access row) log
 
--- the candidates of a bank
+-- the candidates of a bank to read and to write are the places of its first requests that may be served
 pub record AreCandidates (log : List Arrived) (bank : ℕ) (candidates : CandidatesOfBank) : Type 0 where
   pub reads_are : AreFirst log bank access.Read candidates.row candidates.reads
   pub writes_are : AreFirst log bank access.Write candidates.row candidates.writes

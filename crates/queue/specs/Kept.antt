@@ -7,7 +7,7 @@ use Rattle.queue.specs.View.{QueueView, drains_by}
 use Rattle.queue.specs.Log.{waiting_requests}
 use Rattle.queue.specs.Columns.{write_count}
 
--- the queue that contracts see
+-- what contracts see of a queue
 abbrev pub view_of : Inside → QueueView
 view_of q =
     record {
@@ -19,8 +19,8 @@ view_of q =
       drain_decided = q.drain_decided;
     }
 
--- Those that wait are counted, and the writes among them. What is kept of a drain is right for these writes. There are
--- places for as many requests as may wait.
+-- The requests that wait are counted, and the writes among them. Whether the queue drains is known for this number of
+-- writes. There are places for as many requests as may wait.
 pub record AreKept (q : Inside) : Type 0 where
   pub waiting_are : q.waiting ≡ length (waiting_requests q.log.log)
   pub writes_are : q.writes ≡ write_count (waiting_requests q.log.log)

@@ -1,18 +1,13 @@
 -- Marks: words that say yes or no for each place of a column. The word 1 is a mark, and no other word is.
 --     is_marked word      a word is a mark
---     mark test      the word that says whether a test holds
 --     write_bit access      1 for a write, 0 for a read
-use Rattle.std.specs.Prelude.{ℕ, ◌==◌, Bool, if◌then◌else◌}
+use Rattle.std.specs.Prelude.{ℕ, ◌==◌, Bool}
 use Rattle.sim_base.specs.declared.message.Access.{Access}
 use Rattle.sim_base.specs.declared.message.Access.TheVariants as access
 
 -- a mark is the word 1
 abbrev pub is_marked : ℕ → Bool
 is_marked word = word == 1
-
--- the word that says whether a test holds
-abbrev pub mark : Bool → ℕ
-mark test = if test then 1 else 0
 
 -- 1 for a write, 0 for a read
 abbrev pub write_bit : Access → ℕ

@@ -1,5 +1,5 @@
 -- What a log keeps beside its requests.
---     AreKept inside      the tags are those of its requests, those that wait are counted by line and by row, and the blocked ones are counted
+--     AreKept inside      the tags are those of the log, and the requests that wait and the blocked ones are counted
 use Rattle.std.specs.Prelude.{◌≡◌, ◌-◌, ◌^◌, ◌<◌, ◌≤◌, length, vec_capacity}
 use Rattle.queue.specs.declared.request_log.RequestLog.TheInside.{Inside}
 use Rattle.queue.specs.Log.{waiting_requests}

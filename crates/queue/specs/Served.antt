@@ -1,10 +1,12 @@
 -- A log once a request has been served, since when one more may be served, if there is one.
 --     passing test log candidate      a place, if the request there passes a test
---     IsServed earlier place unblocked log      a log, once the request at a place has been served, and the place of the one that may be since then
---     AreFirstWith log bank access row unblocked candidates      the candidates of a bank and an access, once that one is taken in
---     AreFirstWithout departure log row unblocked candidates      the same of those of the request that was served
---     candidate_for places departure hit, candidates_for places departure      a candidate of those, and both
---     wants_like departure row      a request is of that bank and access, and asks for a row if one is given
+--     IsServed earlier place unblocked log      a log once a request is served, and the one unblocked by that
+--     AreFirstWith log bank access row unblocked candidates      the candidates once the unblocked request is taken in
+--     AreFirstWithout departure log row unblocked candidates      the candidates of the bank and access of a departure
+--     candidate_for places departure hit      a candidate of the bank and access of a departure
+--     candidates_for places departure      both candidates of the bank and access of a departure
+--     wants_like departure row      a request is of the departure's bank and access, and asks for a row if one is given
+--     HasDeparted old new log departure row      the request that was served is no longer among the candidates
 use Rattle.std.specs.Prelude.{◌≡◌, ℕ, ◌<◌, Bool, true, List, length, slice_index_or, Option, Some, None, IfSome, if◌then◌else◌}
 use Rattle.sim_base.specs.declared.message.Access.{Access}
 use Rattle.sim_base.specs.declared.message.Request.{Request}
@@ -13,9 +15,9 @@ use Rattle.queue.specs.Log.{absent, served_at, waits_at, eligible_column, marks_
 use Rattle.queue.specs.declared.bank_candidates.entry.AccessCandidates.{AccessCandidates}
 use Rattle.queue.specs.declared.bank_candidates.places.Departure.{Departure}
 use Rattle.queue.specs.declared.bank_candidates.places.Places.{Places}
-use Rattle.queue.specs.Candidates.{asks, hits, wants, first_place}
+use Rattle.queue.specs.Candidates.{asks, hits, wants, first_place, AreFirst, NoneWaits}
 use Rattle.queue.specs.Changes.{candidate_at, candidates_at}
-use Rattle.queue.specs.Moves.{earlier}
+use Rattle.sim_base.specs.Earlier.{earlier}
 
 -- a place, if the request there passes a test
 abbrev pub passing : (Request → Bool) → List Arrived → Option ℕ → Option ℕ
@@ -30,25 +32,40 @@ pub record IsServed (earlier : List Arrived) (place : ℕ) (unblocked : Option �
   pub marks_are : eligible_column log ≡ marks_once_served earlier place unblocked
   pub next : IfSome unblocked (λ k. k < length log)
 
--- The candidates of a bank to read or to write, where this row is open, once a request that may be served now is taken
--- in, if there is one.
+-- The candidates of a bank to read or to write, where `row` is open, once the request at place `unblocked`, which may
+-- be served now, is taken in, if there is one.
 pub record AreFirstWith (log : List Arrived) (bank : ℕ) (access : Access) (row : Option ℕ) (unblocked : Option ℕ) (candidates : AccessCandidates) : Type 0 where
-  pub oldest_is : earlier candidates.oldest (passing (asks bank access) log unblocked) ≡ first_place (asks bank access) log
-  pub hit_is : earlier candidates.hit (passing (hits bank access row) log unblocked) ≡ first_place (hits bank access row) log
+  pub oldest_is : earlier candidates.oldest (passing (asks bank access) log unblocked)
+      ≡ first_place (asks bank access) log
+  pub hit_is : earlier candidates.hit (passing (hits bank access row) log unblocked)
+      ≡ first_place (hits bank access row) log
 
--- The candidates of the bank and the access of a request that has been served, once a request that may be served now is
--- taken in, if any is.
+-- The candidates of the bank and the access of a request that has been served, once the request at place `unblocked`,
+-- which may be served now, is taken in, if there is one.
 abbrev pub AreFirstWithout : Departure → List Arrived → Option ℕ → Option ℕ → AccessCandidates → Type 0
-AreFirstWithout departure log row unblocked candidates = AreFirstWith log departure.bank departure.access row unblocked candidates
+AreFirstWithout departure log row unblocked candidates =
+    AreFirstWith log departure.bank departure.access row unblocked candidates
 
 -- a candidate of the bank and the access of the request that was served
 abbrev pub candidate_for : Places → Departure → Bool → Option ℕ
 candidate_for places departure hit = candidate_at places departure.bank departure.access hit
 
--- both of them
+-- both candidates of the bank and the access of the request that was served: the oldest and the first hit
 abbrev pub candidates_for : Places → Departure → AccessCandidates
 candidates_for places departure = candidates_at places departure.bank departure.access
 
--- a request is of the same bank and access, and asks for a row if one is given
+-- a request is of the bank and the access of the one that was served, and asks for a row if one is given
 abbrev pub wants_like : Departure → Option ℕ → Request → Bool
 wants_like departure row = wants departure.bank departure.access row
+
+-- A request has been served, after which the log is this one, and it is no longer among the candidates of its bank and
+-- access, where this row is open: if they were the first ones of the log before, they are the first ones of this log,
+-- once a request that may be served since then is taken in, if there is one. Where the departure says that the bank and
+-- the access are empty, no request that waits asks for them.
+abbrev pub HasDeparted : Places → Places → List Arrived → Departure → Option ℕ → Type 0
+HasDeparted old new log departure row =
+    (earlier : List Arrived) (unblocked : Option ℕ)
+    → IsServed earlier departure.place unblocked log
+    → (departure.empty ≡ true → NoneWaits log departure.bank departure.access)
+    → AreFirst earlier departure.bank departure.access row (candidates_for old departure)
+    → AreFirstWithout departure log row unblocked (candidates_for new departure)

@@ -1,19 +1,20 @@
 -- What a queue stands for.
 --     QueueView      the requests that have arrived, and what decides whether it drains
---     empty_queue room high low      one with no requests
+--     empty_queue room high low      a queue with no requests
 --     with_request view r      a queue with one more request
---     renumbered view      one whose requests that wait have moved to the front
---     places_for room      how many requests there are places for
---     drains_by high low drained writes      whether a queue with this many writes drains, given whether it drained before
---     is_draining view      whether it drains with the requests that wait
+--     renumbered view      a queue whose requests that wait have moved to the front
+--     places_for room      for how many requests a queue has places
+--     drains_by high low drained writes      whether a queue with this many writes drains, given if it drained before
+--     is_draining view      whether a queue drains with the requests that wait
 use Rattle.std.specs.Prelude.{ℕ, ◌+◌, ◌*◌, min, nat_lt, nat_le, Bool, false, ◌&&◌, ◌||◌, List, []}
 use Rattle.sim_base.specs.declared.message.Request.{Request}
 use Rattle.queue.specs.declared.request_log.Arrived.{Arrived}
 use Rattle.queue.specs.Log.{waiting, waiting_requests, with_arrival}
 use Rattle.queue.specs.Columns.{write_count}
 
--- how many requests may wait, how many have places, the numbers of writes with which a drain begins and ends, the
--- requests that have arrived by age, of which some wait, and whether the queue drained when that was last decided
+-- What contracts see of a queue: how many requests may wait, how many have places, the numbers of writes with which a
+-- drain begins and ends, the requests that have arrived by age, of which some wait, and whether the queue drained when
+-- that was last decided.
 pub record QueueView : Type 0 where
   pub room : ℕ
   pub places : ℕ
@@ -22,7 +23,7 @@ pub record QueueView : Type 0 where
   pub log : List Arrived
   pub drain_decided : Bool
 
--- how many requests there are places for, where so many may wait: those that wait move to the front once in so many
+-- for how many requests a queue has places, where `room` may wait: those that wait move to the front once in as many
 -- arrivals as there are further places
 abbrev pub places_for : ℕ → ℕ
 places_for room = min (room * 2 + 256) 65534
@@ -47,7 +48,8 @@ with_request view r = record view { log = with_arrival view.log r }
 abbrev pub renumbered : QueueView → QueueView
 renumbered view = record view { log = waiting view.log }
 
--- A drain begins with `high` writes or more, if that is not 0, and goes on with more than `low`.
+-- whether a queue with this number of writes drains: a drain begins with `high` writes or more, if `high` is not 0, and
+-- goes on with more than `low`
 abbrev pub drains_by : ℕ → ℕ → Bool → ℕ → Bool
 drains_by high low drained writes = (nat_lt 0 high && nat_le high writes) || (drained && nat_lt low writes)
 

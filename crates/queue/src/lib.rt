@@ -16,8 +16,8 @@ use std::marker::Model;
 /// The highest number of places that a log may have.
 const MOST_PLACES: usize = 65_534;
 
-/// Those that wait move to the front where more than twice as many and these have arrived since they last did, so that
-/// a log in which few wait stays short, and its places in the caches.
+/// The requests that wait move to the front where more than twice as many and this number have arrived since they last
+/// did, so that a log in which few wait stays short, and its places in the caches.
 const SPARE_PLACES: usize = 256;
 
 /// Whether a queue with `writes` writes drains, given whether it drained before.
@@ -45,13 +45,13 @@ pub struct Queue {
     high: u32,
     /// Writes with which a drain ends.
     low: u32,
-    /// Whether it drained when that was last decided.
+    /// Whether the channel drained its writes when that was last decided.
     drain_decided: bool,
-    /// Whether it drains with the writes that wait.
+    /// Whether the channel drains its writes with those that wait.
     drains: bool,
-    /// Requests that wait.
+    /// How many requests wait.
     waiting: usize,
-    /// Writes among them.
+    /// How many of the requests that wait are writes.
     writes: usize,
     log: RequestLog,
 }
@@ -107,8 +107,8 @@ impl Queue {
         &self.log
     }
 
-    /// Makes places for `count` requests that arrive. Where too few are left, or far more than wait are in use, those
-    /// that wait move to the front; the call tells whether they did.
+    /// Makes places for `count` requests that arrive. Where too few places are left, or far more are in use than
+    /// requests wait, the requests that wait move to the front; the call tells whether they did.
     #[inline(always)]
     pub fn make_room(&mut self, count: usize) -> bool
         requires { length (waiting_requests self.old.log) + count ≤ self.old.room }
@@ -138,8 +138,8 @@ impl Queue {
         }
     }
 
-    /// Serves the request at a place, which no longer waits then. Returns the place of the next one for its line, if
-    /// that was blocked by it and may be served now.
+    /// Serves the request at a place, which no longer waits then. Returns the place of the next request for its line,
+    /// if that was blocked by this one and may be served now.
     #[inline(always)]
     pub fn serve(&mut self, place: usize) -> Option<usize>
         requires within { place < length self.old.log }

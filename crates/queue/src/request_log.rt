@@ -1,5 +1,5 @@
-//! The requests that have arrived at a channel, by age, each at a place that it keeps until those that wait are moved
-//! to the front.
+//! The requests that have arrived at a channel, by age, each at a place that it keeps until the requests that wait are
+//! moved to the front.
 
 mod lines;
 pub mod words;
@@ -8,7 +8,7 @@ ghost use Rattle.std.specs.Prelude.{◌≡◌, ◌^◌, ◌+◌, ◌-◌, ◌<�
 ghost use Rattle.queue.specs.Columns.{bank_number, tag_word, counter_of_row, waiting_items};
 
 use crate::request_log::lines::{counters, is_for, next_for_line};
-use crate::request_log::words::{LEFT, bank_number, line_counter, row_counter, tag_word};
+use crate::request_log::words::{SERVED, bank_number, line_counter, row_counter, tag_word};
 use sim_base::message::{Access, Request};
 use sim_base::place::Place;
 use std::alloc::{AllocError, Global};
@@ -18,19 +18,20 @@ use std::marker::Model;
 #[derive(Clone, Copy)]
 pub struct Arrived {
     pub request: Request,
-    /// Whether it waits: its data has not been moved.
+    /// Whether the request waits: its data has not been moved.
     pub waits: bool,
-    /// Whether an ACT was issued in its name.
+    /// Whether an ACT was issued in the name of the request.
     pub activated: bool,
 }
 
-/// There are counters of rows for no more requests than these, so that those of a large queue take little memory.
+/// There are counters of rows for at most this number of requests, so that the counters of a large queue take little
+/// memory.
 const ROOM_OF_ROWS: usize = 2048;
 
-/// For so many lines the place of the request that arrived last is kept.
+/// For how many lines the place of the request that arrived last is kept.
 const RECENT: usize = 1024;
 
-/// The counter of a request among those of rows, which go up to `mask`.
+/// The counter of a request among the counters of rows, which go up to `mask`.
 #[inline(always)]
 fn row_counter_of(request: Request, mask: usize) -> usize
     ensures value { result ≡ counter_of_row mask request }
@@ -90,14 +91,14 @@ pub struct RequestLog {
     /// How many requests that wait are for the lines of each counter. There are so many counters that few count two
     /// lines.
     lines: Vec<u16>,
-    /// The highest of these counters.
+    /// The highest counter by line.
     mask: usize,
     /// For some counters, by their number modulo `RECENT`, the place of the request that arrived last for a line of
     /// theirs, where no request has moved since.
     recent: Vec<u16>,
     /// How many requests that wait are for the rows of each counter, to write or to read.
     rows: Vec<u16>,
-    /// The highest of these.
+    /// The highest counter by row.
     row_mask: usize,
 }
 
@@ -119,8 +120,8 @@ impl RequestLog {
     ghost use Rattle.sim_base.specs.Scheduling.{asks_for_line};
     ghost use Rattle.queue.specs.Columns.{tag_column, NoneAsksForRow};
 
-    /// No requests, with places for so many of them, of which at most `room` wait at a time. Only this call allocates
-    /// memory.
+    /// A log with no requests, and with `places` places for them, of which at most `room` wait at a time. Only this
+    /// call allocates memory.
     pub fn with_places(alloc: Global, places: usize, room: usize) -> Result<Self, AllocError>
         requires { places < 2 ^ 16 - 1 }
         ensures { IfOk result (λ log. log ≡ record { places = places; log = [] }) }
@@ -258,8 +259,8 @@ impl RequestLog {
         self.blocked += usize::from(asked);
     }
 
-    /// Serves the request at a place, which no longer waits then. Returns the place of the next one for its line, if
-    /// that was blocked by it and may be served now.
+    /// Serves the request at a place, which no longer waits then. Returns the place of the next request for its line,
+    /// if that was blocked by this one and may be served now.
     #[inline(always)]
     pub fn serve(&mut self, place: usize) -> Option<usize>
         requires within { place < length self.old.log }
@@ -272,7 +273,7 @@ impl RequestLog {
         let was_first = self.is_eligible(place);
         let request = self.log[place].request;
         self.log[place].waits = false;
-        self.tags[place] = LEFT;
+        self.tags[place] = SERVED;
         let line = line_counter(request.place, self.mask);
         let alike = self.lines[line] - 1;
         self.lines[line] = alike;
@@ -301,7 +302,7 @@ impl RequestLog {
         self.log[place].activated = true;
     }
 
-    /// Moves those that wait to the front, in their order; those that were served lose their places.
+    /// Moves the requests that wait to the front, in their order; the requests that were served lose their places.
     #[inline(never)]
     pub fn renumber(&mut self)
         ensures { self.new ≡ record self.old { log = waiting self.old.log } }

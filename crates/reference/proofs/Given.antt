@@ -9,6 +9,7 @@ use Rattle.shards.specs.Merging.{IsOf, is_among, names_of}
 use Rattle.shards.specs.Phases.{PhaseView, shard_count, job_of, jobs_of}
 use Rattle.shards.proofs.Placing.{among-place}
 use Rattle.sim_base.proofs.Lists.{length-map_below}
+use Rattle.reference.specs.Orders.{IsGiven}
 
 -- what is among the jobs of a phase is of its machine
 own : (p : PhaseView) (d : JobView) → Any (λ r. r ≡ d) (jobs_of p) → (d.machine ≡ p.machine) × (d.bounds ≡ p.bounds)
@@ -26,7 +27,7 @@ named p d among =
     (at.0, job_of p at.0, l, get_or-map-range_with_len (job_of p) 0 (shard_count p) at.0 at.0 (job_of p at.0) at.1 (zero-add at.0), at.2)
 
 -- so is what has such a name, where what has the name of one of the results is one of them
-pub of_phase : (p : PhaseView) (results arranged : List JobView) → results ≡ jobs_of p → All (λ d. Any (λ r. r.name ≡ d.name) results → Any (λ r. r ≡ d) results) arranged
+pub of_phase : (p : PhaseView) (results arranged : List JobView) → results ≡ jobs_of p → All (IsGiven results) arranged
     → All (IsOf p) arranged
 of_phase p results arranged e given k d l among =
     let x = get_or arranged k d in
@@ -36,8 +37,8 @@ of_phase p results arranged e given k d l among =
 each-is_one : (results : List JobView) → All (λ d. Any (λ r. r ≡ d) results) results
 each-is_one results k d l = (k, get_or results k d, l, get_or_default results k (get_or results k d) d l, refl)
 
-pub each-given : (results : List JobView) → All (λ d. Any (λ r. r.name ≡ d.name) results → Any (λ r. r ≡ d) results) results
+pub each-given : (results : List JobView) → All (IsGiven results) results
 each-given results k d l named = each-is_one results k d l
 
-pub permuted-given : (results arranged : List JobView) → IsPermutation results arranged → All (λ d. Any (λ r. r.name ≡ d.name) results → Any (λ r. r ≡ d) results) arranged
+pub permuted-given : (results arranged : List JobView) → IsPermutation results arranged → All (IsGiven results) arranged
 permuted-given results arranged same k d l named = All-permutation (λ d. Any (λ r. r ≡ d) results) results arranged same (each-is_one results) k d l

@@ -96,10 +96,15 @@ pub record StopsAtMisfit (may_give : ℕ → List JobView → List JobView → T
 abbrev pub IsWhyStopped : (ℕ → List JobView → List JobView → Type 0) → ℕ → SimView → ℕ → Fault → Type 0
 IsWhyStopped may_give shards sim limit fault = (fault ≡ Memory) ⊎ StopsAtMisfit may_give shards sim limit fault
 
+-- what has the name of one of some results is one of them
+abbrev pub IsGiven : List JobView → JobView → Type 0
+IsGiven results d = Any (λ r. r.name ≡ d.name) results → Any (λ r. r ≡ d) results
+
 -- what is given for the results of a phase, and has the name of one of them, is one of them
 abbrev pub BringsNoneIn : List JobView → List JobView → Type 0
-BringsNoneIn results arranged = All (λ d. Any (λ r. r.name ≡ d.name) results → Any (λ r. r ≡ d) results) arranged
+BringsNoneIn results arranged = All (IsGiven results) arranged
 
 -- what is given for the results of a phase are these in some order
 abbrev pub OnlyPermutes : (ℕ → List JobView → List JobView → Type 0) → Type 0
-OnlyPermutes may_give = (phase : ℕ) (results arranged : List JobView) → may_give phase results arranged → IsPermutation results arranged
+OnlyPermutes may_give =
+    (phase : ℕ) (results arranged : List JobView) → may_give phase results arranged → IsPermutation results arranged

@@ -1,7 +1,8 @@
 //! A run of the plain machine, from the bytes of its input.
 
 ghost use Rattle.std.specs.Prelude.{IfOk, IfErr};
-ghost use Rattle.simulation.specs.Runs.{texts_in, IsInputFault, IsRun, IsLegal};
+ghost use Rattle.simulation.specs.Runs.{IsInputFault, IsRun, IsLegal};
+ghost use Rattle.sim_base.specs.Texts.{texts_of};
 
 use one_clock::machine::run_plain;
 use sim_base::fault::Fault;
@@ -25,7 +26,7 @@ pub fn simulate_plain<R: Threads + Sync>(
     ensures run { IfOk result (IsRun input.entry options) }
     ensures legal { IfOk result (IsLegal input.entry options) }
     ensures refused { IfErr result
-        (IsInputFault input.entry.config.now (texts_in input.entry.traces.now) options.cycles options.workers.count) }
+        (IsInputFault input.entry.config.now (texts_of input.entry.traces.now) options.cycles options.workers.count) }
 {
     let RunOptions {
         cycles,

@@ -1,12 +1,6 @@
 -- How a line about a file begins: with where a reader should look.
---     IsText wanted text      a text is this one
 --     file_head path, line_head path line, row_head path row      the path of a file, with the number of a line or of a row
-use Rattle.std.specs.Prelude.{ℕ, ◌≡◌, List, ◌++◌, codes, decimal, string_bytes, String}
-use Rattle.std.specs.declared.alloc.Global.{Global}
-
--- a text is this one
-abbrev pub IsText : List ℕ → String Global → Type 0
-IsText wanted text = string_bytes text ≡ wanted
+use Rattle.std.specs.Prelude.{ℕ, List, ◌++◌, codes, decimal}
 
 -- the path of a file
 abbrev pub file_head : List ℕ → List ℕ

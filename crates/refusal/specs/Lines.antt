@@ -46,7 +46,8 @@ fault_line (fault.Merge cause) = codes "fault 16: merge " ++ decimal (merge_numb
 abbrev pub refusal_text : Refusal → List ℕ
 refusal_text (Kept fault) = fault_line fault
 refusal_text (Torn fault) =
-    fault_line fault ++ codes "\nthe tables are of two runs: what is missing of this one stands beside them under names that end in .part"
+    fault_line fault
+    ++ codes "\nthe tables are of two runs: what is missing of this one stands beside them under names that end in .part"
 
 abbrev pub refusal_lines : Refusal → List ℕ
 refusal_lines refusal = refusal_text refusal ++ codes "\n"

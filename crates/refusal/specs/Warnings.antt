@@ -23,7 +23,8 @@ fitting_words (Some cycles) = codes "; with --cycles " ++ decimal cycles ++ code
 
 abbrev pub warning_line : LargePage → List ℕ
 warning_line page =
-    codes "warning: the page has " ++ decimal page.bytes ++ codes " bytes, more than 50000000" ++ fitting_words page.cycles ++ codes "\n"
+    codes "warning: the page has " ++ decimal page.bytes ++ codes " bytes, more than 50000000"
+    ++ fitting_words page.cycles ++ codes "\n"
 
 -- a stream took a line whole, or a beginning of it where it has refused
 pub record IsLine (has_refused : Bool) (old new : Option (List ℕ)) (line : List ℕ) : Type 0 where

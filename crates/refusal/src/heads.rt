@@ -1,7 +1,8 @@
 //! Where a reader should look: what a line about a file begins with.
 
 ghost use Rattle.std.specs.Prelude.{IfOk};
-ghost use Rattle.refusal.specs.Heads.{IsText, file_head, line_head, row_head};
+ghost use Rattle.refusal.specs.Heads.{file_head, line_head, row_head};
+ghost use Rattle.sim_base.specs.Texts.{IsText};
 
 use std::alloc::{AllocError, Global};
 

@@ -5,7 +5,8 @@ use Rattle.std.specs.List.{AllZip, Contains, flat_map, slice_range}
 use Rattle.std.specs.Prelude.{MatchResult, IfOk, IfErr}
 use Rattle.rayon.specs.Shown.{take-add}
 use Rattle.sim_base.specs.declared.fault.Fault.{Fault}
-use Rattle.reports.specs.Rows.{IsReportFault, IsTextOf, rows_text}
+use Rattle.reports.specs.Rows.{IsTextOf, rows_text}
+use Rattle.sim_base.specs.Faults.{IsWriteFault}
 use Rattle.reports.proofs.TableLemmas.{mapped_none, lines-append}
 
 -- each of these pieces has its text, or why there is none
@@ -22,7 +23,7 @@ texts_joined lines (piece ∷ pieces) (text ∷ texts) all = λ i. all.0 i ++ te
 
 -- why a piece has no text is why a report may be refused
 fault_of_report : {A : Type 0} (lines : A → List ℕ) (pieces : List A) (results : List (Result (Vec ℕ Global) Fault)) (fault : Fault)
-    → HaveTexts lines pieces results → Contains results (Err fault) → IsReportFault fault
+    → HaveTexts lines pieces results → Contains results (Err fault) → IsWriteFault fault
 fault_of_report lines [] [] fault all at = absurd (omega (arith, at.1))
 fault_of_report lines [] (result ∷ results) fault all at = absurd all
 fault_of_report lines (piece ∷ pieces) [] fault all at = absurd all
@@ -41,7 +42,7 @@ collected_texts lines pieces results (Ok all) are (texts, same, is) = rw is (tex
 collected_texts lines pieces results (Err fault) are why = tt
 
 pub collected_fault : {A : Type 0} (lines : A → List ℕ) (pieces : List A) (results : List (Result (Vec ℕ Global) Fault)) (collected : Result (Vec (Vec ℕ Global) Global) Fault)
-    → HaveTexts lines pieces results → AreCollected results collected → IfErr collected (λ fault. IsReportFault fault)
+    → HaveTexts lines pieces results → AreCollected results collected → IfErr collected (λ fault. IsWriteFault fault)
 collected_fault lines pieces results (Ok all) are texts = tt
 collected_fault lines pieces results (Err fault) are why = fault_of_report lines pieces results fault are why
 

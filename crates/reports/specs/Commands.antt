@@ -39,7 +39,8 @@ kind_word kind.Ref = codes "REF"
 -- state is empty
 abbrev pub request_operands : BankId → Option ℕ → Option ℕ → Source → List (List ℕ)
 request_operands bank row column source =
-    decimal bank.group ∷ decimal bank.bank ∷ optional row ∷ optional column ∷ decimal source.core ∷ decimal source.entry ∷ []
+    decimal bank.group ∷ decimal bank.bank ∷ optional row ∷ optional column ∷ decimal source.core ∷ decimal source.entry
+    ∷ []
 
 -- these fields of any command; one of a whole rank states none of them
 abbrev pub operand_fields : Command → List (List ℕ)

@@ -16,6 +16,7 @@ use Rattle.sim_base.specs.declared.message.Access.TheVariants as access
 use Rattle.statistics.specs.Values.{LastCore, LastChannel, LastState}
 use Rattle.statistics.specs.declared.final_state.Credits.{Credits}
 use Rattle.statistics.specs.declared.final_state.OpenRow.{OpenRow}
+use Rattle.sim_base.specs.Scheduling.{entry_in}
 
 -- the names of the columns
 abbrev pub final_header : ℕ → List (List ℕ)
@@ -109,12 +110,6 @@ flight_item (payload.Reply entry) = codes "flight_reply"
 flight_item (payload.Credit access.Read entry) = codes "flight_credit_read"
 flight_item (payload.Credit access.Write entry) = codes "flight_credit_write"
 
--- the entry that a message is about
-abbrev pub flight_entry : Payload → ℕ
-flight_entry (payload.Request request) = request.entry
-flight_entry (payload.Reply entry) = entry
-flight_entry (payload.Credit access entry) = entry
-
 -- the core of a link of a machine with this many channels; none where there is no channel
 abbrev pub core_of_link : ℕ → ℕ → Option ℕ
 core_of_link channels link = if channels == 0 then None else Some (link / 3 / channels)
@@ -129,13 +124,14 @@ flight_numbers channels message =
     record blank {
       core = core_of_link channels message.link;
       channel = channel_of_link channels message.link;
-      entry = Some (flight_entry message.payload);
+      entry = Some (entry_in message.payload);
       cycle = Some message.arrival;
       value = Some message.link;
     }
 
 abbrev pub flight_fields : ℕ → ℕ → Message → List (List ℕ)
-flight_fields ranks channels message = final_fields ranks (flight_item message.payload) (flight_numbers channels message)
+flight_fields ranks channels message =
+    final_fields ranks (flight_item message.payload) (flight_numbers channels message)
 
 -- the rows: the progress of each core, the credits of each core, each channel, and the messages in flight
 abbrev pub final_rows : ℕ → LastState → List (List (List ℕ))

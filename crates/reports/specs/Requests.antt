@@ -33,7 +33,8 @@ time_fields row =
 
 -- the fields of a row
 abbrev pub request_fields : RequestTimes → List (List ℕ)
-request_fields row = decimal row.core ∷ decimal row.entry ∷ access_word row.access ∷ decimal row.channel ∷ time_fields row
+request_fields row =
+    decimal row.core ∷ decimal row.entry ∷ access_word row.access ∷ decimal row.channel ∷ time_fields row
 
 -- the rows of requests, in this order
 abbrev pub request_lines : List RequestTimes → List ℕ

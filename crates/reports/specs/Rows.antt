@@ -8,11 +8,10 @@
 --     table_text header rows      a table
 --     numbered f xs      what the items of a list give with their numbers
 --     plain_writer      how csv writes: never with quotes
---     IsReportFault fault      why a table may be refused
 --     IsTextOf text result      a text, or why there is none
 --     all_of texts      texts, one after the other
 --     WritesOnOk result contents old new text      on Ok, a writer has got this text and nothing else
-use Rattle.std.specs.Prelude.{◌≡◌, ℕ, nat_lt, List, [], ◌∷◌, ◌++◌, ⊤, codes, decimal, if◌then◌else◌, Option, Some, None, Result, OnOk, MatchResult, Vec}
+use Rattle.std.specs.Prelude.{◌≡◌, ℕ, nat_lt, List, [], ◌∷◌, ◌++◌, codes, decimal, if◌then◌else◌, Option, Some, None, Result, OnOk, MatchResult, Vec}
 use Rattle.std.specs.Io.KnownBytes.{Appends}
 use Rattle.std.specs.List.{enumerate_from, flat_map, join_with_byte}
 use Rattle.csv.specs.Writing.{default_writer, with_style}
@@ -20,7 +19,7 @@ use Rattle.csv.specs.declared.writer.QuoteStyle.TheVariants as style
 use Rattle.csv.specs.declared.writer.WriterBuilder.{WriterBuilder}
 use Rattle.sim_base.specs.declared.fault.Fault.{Fault}
 use Rattle.std.specs.declared.alloc.Global.{Global}
-use Rattle.sim_base.specs.declared.fault.Fault.TheVariants.{Memory, Write}
+use Rattle.sim_base.specs.Faults.{IsWriteFault}
 
 -- the text of a value; an empty field where there is none
 abbrev pub optional_by : {A : Type 0} → (A → List ℕ) → Option A → List ℕ
@@ -68,15 +67,9 @@ numbered f xs = flat_map (λ p. f p.0 p.1) (enumerate_from 0 xs)
 abbrev pub plain_writer : WriterBuilder
 plain_writer = with_style default_writer style.Never
 
--- memory was refused, or the writer failed
-abbrev pub IsReportFault : Fault → Type 0
-IsReportFault Memory = ⊤
-IsReportFault Write = ⊤
-IsReportFault _ = ⊥
-
 -- a text, or why there is none
 abbrev pub IsTextOf : List ℕ → Result (Vec ℕ Global) Fault → Type 0
-IsTextOf text result = MatchResult result (λ found. found.items ≡ text) IsReportFault
+IsTextOf text result = MatchResult result (λ found. found.items ≡ text) IsWriteFault
 
 -- texts, one after the other
 abbrev pub all_of : List (Vec ℕ Global) → List ℕ

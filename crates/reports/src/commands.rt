@@ -2,7 +2,8 @@
 
 ghost use Rattle.std.specs.Prelude.{◌≡◌, ◌<◌, ◌≤◌, ◌+◌, ◌∷◌, ◌++◌, length, drop, Some, codes, IfErr};
 ghost use Rattle.sim_base.specs.Rules.{kind_of, rank_of};
-ghost use Rattle.reports.specs.Rows.{comma, fields_text, with_rank, row_text, IsReportFault, WritesOnOk};
+ghost use Rattle.reports.specs.Rows.{comma, fields_text, with_rank, row_text, WritesOnOk};
+ghost use Rattle.sim_base.specs.Faults.{IsWriteFault};
 ghost use Rattle.reports.specs.Tables.{AddsRows};
 ghost use Rattle.reports.specs.Commands.{header, kind_word, request_operands, operand_fields, command_fields, lines_text, commands_text};
 
@@ -207,7 +208,7 @@ pub fn write_commands<W: Write>(
 ) -> Result<(), Fault>
     ensures written { WritesOnOk result W.contents writer.old writer.new
         (commands_text ranks commands.now) }
-    ensures refused { IfErr result (λ e. IsReportFault e) }
+    ensures refused { IfErr result (λ e. IsWriteFault e) }
 {
     let rows = commands.rows(alloc)?;
     write_whole(alloc, &CommandLines { ranks }, &rows, writer)
@@ -222,7 +223,8 @@ pub fn write_commands<W: Write>(
 ///
 /// # Errors
 ///
-/// As of `write_commands`.
+/// `Fault::Memory` where memory is refused, and `Fault::Write` where the writer fails or takes no byte. How much
+/// went out before that is not known.
 pub fn write_commands_by<R: Threads + Sync, W: Write>(
     threads: &TableThreads<'_, R>,
     ranks: u32,
@@ -231,7 +233,7 @@ pub fn write_commands_by<R: Threads + Sync, W: Write>(
 ) -> Result<(), Fault>
     ensures written { WritesOnOk result W.contents writer.old writer.new
         (commands_text ranks commands.now) }
-    ensures refused { IfErr result (λ e. IsReportFault e) }
+    ensures refused { IfErr result (λ e. IsWriteFault e) }
 {
     if threads.count < 2 {
         return write_commands(threads.alloc, ranks, commands, writer);

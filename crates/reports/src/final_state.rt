@@ -1,8 +1,9 @@
 //! The table of the state in which a run ends, `final.csv`.
 
 ghost use Rattle.std.specs.Prelude.{◌≡◌, ◌<◌, ◌≤◌, length, map, Some, IfErr};
-ghost use Rattle.reports.specs.Rows.{fields_text, row_text, rows_text, numbered, IsReportFault, WritesOnOk};
-ghost use Rattle.reports.specs.Final.{final_header, final_fields, core_numbers, progress_rows, credit_rows, credits_of_core, due_rows, open_fields, queued_item, queued_fields, channel_rows, flight_item, flight_entry, flight_numbers, flight_fields, final_text};
+ghost use Rattle.reports.specs.Rows.{fields_text, row_text, rows_text, numbered, WritesOnOk};
+ghost use Rattle.sim_base.specs.Faults.{IsWriteFault};
+ghost use Rattle.reports.specs.Final.{final_header, final_fields, core_numbers, progress_rows, credit_rows, credits_of_core, due_rows, open_fields, queued_item, queued_fields, channel_rows, flight_item, flight_numbers, flight_fields, final_text};
 ghost use Rattle.reports.specs.Tables.{AddsRows};
 
 use crate::line::{put, put_last, put_rank, put_word};
@@ -232,22 +233,13 @@ fn flight_word(payload: Payload) -> &'static [u8]
     }
 }
 
-fn entry_of(payload: Payload) -> u64
-    ensures { result ≡ flight_entry payload }
-{
-    match payload {
-        Payload::Request(request) => request.entry,
-        Payload::Reply(entry) | Payload::Credit { entry, .. } => entry,
-    }
-}
-
 fn numbers_of_flight(channels: u64, message: Message) -> Numbers
     ensures { result ≡ flight_numbers channels message }
 {
     Numbers {
         core: (message.link / 3).checked_div(channels),
         channel: (message.link / 3).checked_rem(channels),
-        entry: Some(entry_of(message.payload)),
+        entry: Some(message.payload.entry()),
         cycle: Some(message.arrival),
         value: Some(message.link),
         ..BLANK
@@ -308,7 +300,7 @@ pub fn write_final<W: Write>(
 ) -> Result<(), Fault>
     ensures written { WritesOnOk result W.contents writer.old writer.new
         (final_text ranks state.now) }
-    ensures refused { IfErr result (λ e. IsReportFault e) }
+    ensures refused { IfErr result (λ e. IsWriteFault e) }
 {
     let mut table = RowBuffer::new(alloc);
     write_rows(&mut table, state, ranks, writer);

@@ -44,7 +44,7 @@ fn put_all(line: &mut Line, place: usize, digits: &[u8; DIGITS])
 }
 
 impl Hundred {
-    // That of a cycle.
+    // The hundred of cycles in which a cycle lies.
     fn of(cycle: u64) -> Hundred
         requires low { 100 ≤ cycle }
         requires high { cycle < 1_000_000_000_000_000_000 }
@@ -61,12 +61,12 @@ impl Hundred {
         }
     }
 
-    /// The first that there is, of cycles 100 to 199.
+    /// The hundred of cycles from 100 to 199, the first that is kept.
     pub(crate) fn new() -> Hundred {
         Hundred::of(100)
     }
 
-    // Puts one of its cycles before a place.
+    // Puts a cycle of this hundred before a place.
     #[inline(always)]
     fn put_one(&self, line: &mut Line, end: usize, cycle: u64) -> usize
         requires first { self.now.first ≤ cycle }

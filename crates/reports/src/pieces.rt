@@ -1,7 +1,8 @@
 //! Tables whose rows come in pieces, the texts of which are put together in parallel.
 
 ghost use Rattle.std.specs.Prelude.{◌≡◌, ◌<◌, ◌≤◌, ◌++◌, List, ℕ, length, codes, flat_map, OnOk, IfOk, IfErr};
-ghost use Rattle.reports.specs.Rows.{all_of, IsTextOf, IsReportFault, WritesOnOk};
+ghost use Rattle.reports.specs.Rows.{all_of, IsTextOf, WritesOnOk};
+ghost use Rattle.sim_base.specs.Faults.{IsWriteFault};
 ghost use Rattle.reports.specs.Tables.{AddsRows};
 ghost use Rattle.std.specs.Io.KnownBytes.{Appends};
 
@@ -45,7 +46,7 @@ fn write_header<P, T: TableLines<P>, W: Write>(
     writer: &mut W,
 ) -> Result<(), Fault>
     ensures written { WritesOnOk result W.contents writer.old writer.new (T.header_line of.now) }
-    ensures refused { IfErr result (λ e. IsReportFault e) }
+    ensures refused { IfErr result (λ e. IsWriteFault e) }
 {
     let mut table = RowBuffer::new(alloc);
     table.write_text(of.columns(), writer);
@@ -61,7 +62,7 @@ pub(crate) fn write_whole<P, T: TableLines<P>, W: Write>(
 ) -> Result<(), Fault>
     ensures written { WritesOnOk result W.contents writer.old writer.new
         (T.header_line of.now ++ T.lines of.now rows.now) }
-    ensures refused { IfErr result (λ e. IsReportFault e) }
+    ensures refused { IfErr result (λ e. IsWriteFault e) }
 {
     let mut table = RowBuffer::new(alloc);
     table.write_text(of.columns(), writer);
@@ -89,7 +90,7 @@ fn texts_of<R: Threads + Sync, P: Sync, T: TableLines<P> + Sync>(
 ) -> Result<Vec<Vec<u8>>, Fault>
     ensures texts { IfOk result (λ texts.
         all_of texts.items ≡ flat_map (T.lines of.now) pieces.now) }
-    ensures refused { IfErr result (λ e. IsReportFault e) }
+    ensures refused { IfErr result (λ e. IsWriteFault e) }
 {
     pieces
         .par_iter()
@@ -105,7 +106,7 @@ fn texts_of<R: Threads + Sync, P: Sync, T: TableLines<P> + Sync>(
 // Writes texts, one after the other.
 fn write_texts<W: Write>(texts: &[Vec<u8>], writer: &mut W) -> Result<(), Fault>
     ensures written { WritesOnOk result W.contents writer.old writer.new (all_of texts.now) }
-    ensures refused { IfErr result (λ e. IsReportFault e) }
+    ensures refused { IfErr result (λ e. IsWriteFault e) }
 {
     for text in texts {
         let Ok(()) = writer.write_all(text) else {
@@ -136,7 +137,7 @@ fn write_round<R: Threads + Sync, P: Sync, T: TableLines<P> + Sync, W: Write>(
         (Appends (W.contents writer.old) (W.contents writer.new) (all_of texts.now)) }
     ensures texts { IfOk result (λ found.
         all_of found.items ≡ flat_map (T.lines of.now) next.now) }
-    ensures refused { IfErr result (λ e. IsReportFault e) }
+    ensures refused { IfErr result (λ e. IsWriteFault e) }
 {
     let rt = threads.rt;
     let alloc = threads.alloc;
@@ -158,7 +159,7 @@ fn write_rounds<R: Threads + Sync, P: Sync, T: TableLines<P> + Sync, W: Write>(
     requires some { 0 < threads.now.count }
     ensures written { WritesOnOk result W.contents writer.old writer.new
         (flat_map (T.lines of.now) pieces.now) }
-    ensures refused { IfErr result (λ e. IsReportFault e) }
+    ensures refused { IfErr result (λ e. IsWriteFault e) }
 {
     let mut done = threads.count.min(pieces.len());
     let mut texts = texts_of(threads.rt, threads.alloc, of, &pieces[..done])?;
@@ -180,7 +181,7 @@ pub(crate) fn write_pieces<R: Threads + Sync, P: Sync, T: TableLines<P> + Sync, 
     requires some { 0 < threads.now.count }
     ensures written { WritesOnOk result W.contents writer.old writer.new
         (T.header_line of.now ++ flat_map (T.lines of.now) pieces.now) }
-    ensures refused { IfErr result (λ e. IsReportFault e) }
+    ensures refused { IfErr result (λ e. IsWriteFault e) }
 {
     write_header(threads.alloc, of, writer)?;
     write_rounds(threads, of, pieces, writer)

@@ -1,7 +1,8 @@
 //! The table of requests, `requests.csv`.
 
 ghost use Rattle.std.specs.Prelude.{◌≡◌, ◌<◌, ◌≤◌, ◌+◌, ◌++◌, ◌∷◌, length, drop, codes, IfErr};
-ghost use Rattle.reports.specs.Rows.{comma, fields_text, row_text, IsReportFault, WritesOnOk};
+ghost use Rattle.reports.specs.Rows.{comma, fields_text, row_text, WritesOnOk};
+ghost use Rattle.sim_base.specs.Faults.{IsWriteFault};
 ghost use Rattle.reports.specs.Tables.{AddsRows};
 ghost use Rattle.reports.specs.Requests.{request_header, access_word, time_fields, request_fields, request_lines, requests_text};
 
@@ -107,7 +108,8 @@ impl<'a> TableLines<Rows<'a>> for RequestLines {
 ///
 /// # Errors
 ///
-/// As of `write_commands`.
+/// `Fault::Memory` where memory is refused, and `Fault::Write` where the writer fails or takes no byte. How much
+/// went out before that is not known.
 pub fn write_requests<W: Write>(
     alloc: Global,
     requests: &RequestTable,
@@ -115,7 +117,7 @@ pub fn write_requests<W: Write>(
 ) -> Result<(), Fault>
     ensures written { WritesOnOk result W.contents writer.old writer.new
         (requests_text requests.now) }
-    ensures refused { IfErr result (λ e. IsReportFault e) }
+    ensures refused { IfErr result (λ e. IsWriteFault e) }
 {
     let rows = requests.rows(alloc)?;
     write_whole(alloc, &RequestLines, &rows, writer)
@@ -126,7 +128,8 @@ pub fn write_requests<W: Write>(
 ///
 /// # Errors
 ///
-/// As of `write_commands`.
+/// `Fault::Memory` where memory is refused, and `Fault::Write` where the writer fails or takes no byte. How much
+/// went out before that is not known.
 pub fn write_requests_by<R: Threads + Sync, W: Write>(
     threads: &TableThreads<'_, R>,
     requests: &RequestTable,
@@ -134,7 +137,7 @@ pub fn write_requests_by<R: Threads + Sync, W: Write>(
 ) -> Result<(), Fault>
     ensures written { WritesOnOk result W.contents writer.old writer.new
         (requests_text requests.now) }
-    ensures refused { IfErr result (λ e. IsReportFault e) }
+    ensures refused { IfErr result (λ e. IsWriteFault e) }
 {
     if threads.count < 2 {
         return write_requests(threads.alloc, requests, writer);

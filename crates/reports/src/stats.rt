@@ -1,7 +1,8 @@
 //! The table of statistics, `stats.csv`.
 
 ghost use Rattle.std.specs.Prelude.{◌≡◌, length, map, IfErr};
-ghost use Rattle.reports.specs.Rows.{row_text, rows_text, numbered, IsReportFault, WritesOnOk};
+ghost use Rattle.reports.specs.Rows.{row_text, rows_text, numbered, WritesOnOk};
+ghost use Rattle.sim_base.specs.Faults.{IsWriteFault};
 ghost use Rattle.reports.specs.Stats.{value_fields, core_rows, channel_rows, stats_text};
 ghost use Rattle.reports.specs.Tables.{AddsRows};
 ghost use Rattle.statistics.specs.Counters.{counter_of, named};
@@ -129,7 +130,7 @@ fn write_rows<W: Write>(table: &mut RowBuffer, stats: &Stats, writer: &mut W)
 /// went out before that is not known.
 pub fn write_stats<W: Write>(alloc: Global, stats: &Stats, writer: &mut W) -> Result<(), Fault>
     ensures written { WritesOnOk result W.contents writer.old writer.new (stats_text stats.now) }
-    ensures refused { IfErr result (λ e. IsReportFault e) }
+    ensures refused { IfErr result (λ e. IsWriteFault e) }
 {
     let mut table = RowBuffer::new(alloc);
     write_rows(&mut table, stats, writer);

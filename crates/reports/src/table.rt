@@ -2,7 +2,8 @@
 
 ghost use Rattle.std.specs.Prelude.{◌≡◌, ◌<◌, ◌≤◌, ◌+◌, ◌++◌, [], Some, false, length, drop, codes, IfErr, OnOk};
 ghost use Rattle.csv.specs.Writing.{writer_setup, fields_written, has_written, writer_under, writer_pending};
-ghost use Rattle.reports.specs.Rows.{plain_writer, IsReportFault, WritesOnOk};
+ghost use Rattle.reports.specs.Rows.{plain_writer, WritesOnOk};
+ghost use Rattle.sim_base.specs.Faults.{IsWriteFault};
 
 use crate::block::Block;
 use crate::line::{Line, ROOM, put_bytes, text_from};
@@ -29,7 +30,7 @@ pub(crate) enum Loss {
 
 impl Loss {
     fn fault(self) -> Fault
-        ensures { IsReportFault result }
+        ensures { IsWriteFault result }
     {
         match self {
             Loss::Memory => Fault::Memory,
@@ -254,7 +255,7 @@ impl RowBuffer {
     /// loses them.
     pub(crate) fn finish<W: Write>(self, writer: &mut W) -> Result<(), Fault>
         ensures written { SendsOnOk result W.contents writer.old self writer.new }
-        ensures refused { IfErr result (λ e. IsReportFault e) }
+        ensures refused { IfErr result (λ e. IsWriteFault e) }
     {
         match self.send_last(writer) {
             Ok(()) => Ok(()),

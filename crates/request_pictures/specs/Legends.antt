@@ -8,7 +8,8 @@ use Rattle.request_pictures.specs.declared.drawing.markup.LegendEntry.{LegendEnt
 -- a patch in the colour of a class of the style sheet, and what it stands for
 unfoldable pub entry_text : LegendEntry → List ℕ
 entry_text entry =
-    codes "<li><svg class=\"patch\" viewBox=\"0 0 10 10\"><rect class=\"" ++ entry.class.now ++ codes "\" width=\"10\" height=\"10\"/></svg>" ++ entry.text.now ++ codes "</li>"
+    codes "<li><svg class=\"patch\" viewBox=\"0 0 10 10\"><rect class=\"" ++ entry.class.now
+    ++ codes "\" width=\"10\" height=\"10\"/></svg>" ++ entry.text.now ++ codes "</li>"
 
 -- the entries as a list
 unfoldable pub legend_text : List LegendEntry → List ℕ

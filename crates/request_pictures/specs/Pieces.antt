@@ -15,7 +15,8 @@ group_text group = codes "," ++ decimal (group / 100) ++ decimal (group / 10 % 1
 -- a number in groups of three digits, as `1,234,067`
 pub data IsGrouped : ℕ → List ℕ → Type 0 where
   few : (number : ℕ) → number < 1000 → IsGrouped number (decimal number)
-  more : (number : ℕ) (front : List ℕ) → 1000 ≤ number → IsGrouped (number / 1000) front → IsGrouped number (front ++ group_text (number % 1000))
+  more : (number : ℕ) (front : List ℕ) → 1000 ≤ number → IsGrouped (number / 1000) front
+      → IsGrouped number (front ++ group_text (number % 1000))
 
 -- a number of thousandths without zeros at the end, and without the point where no place is left: `1200`, `1333.5`
 abbrev pub shortest_text : ℕ → List ℕ

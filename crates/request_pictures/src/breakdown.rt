@@ -59,7 +59,7 @@ impl Parts {
     }
 }
 
-/// The sums of the same over reads, but for the last two, which are together.
+/// Over reads, the sums of the cycles to the channel, in its queue, and from RD to the core.
 #[derive(Clone, Copy)]
 struct Sums {
     reads: u64,
@@ -69,7 +69,7 @@ struct Sums {
 }
 
 impl Sums {
-    // One read more.
+    // The sums with one read more.
     fn with(self, request: &RequestTimes, replied: u64) -> Sums {
         let there = request.arrived.saturating_sub(request.issued);
         let queue = request.served.saturating_sub(request.arrived);

@@ -19,7 +19,8 @@ pub record IsNextOf (lists : List (List ServedRequest)) (count place cycle : ℕ
   pub within : place < count
   pub starts : first_cycle (slice_index_or lists place []) ≡ Some cycle
   pub before : (k : ℕ) → k < place → IfSome (first_cycle (slice_index_or lists k [])) (λ first. cycle < first)
-  pub behind : (k : ℕ) → place < k → k < count → IfSome (first_cycle (slice_index_or lists k [])) (λ first. cycle ≤ first)
+  pub behind : (k : ℕ) → place < k → k < count
+      → IfSome (first_cycle (slice_index_or lists k [])) (λ first. cycle ≤ first)
 
 -- Of the first `count` lists, the one that begins first, with its place and cycle, or none where none of them has a
 -- request.
@@ -31,7 +32,8 @@ IsNextAmong lists count (Some next) = IsNextOf lists count next.place next.cycle
 -- `result` is the next one of those up to the place
 abbrev pub IsEarlier : Option Next → ℕ → Option ℕ → Option Next → Type 0
 IsEarlier found place cycle result =
-    (lists : List (List ServedRequest)) → IsNextAmong lists place found → first_cycle (slice_index_or lists place []) ≡ cycle → IsNextAmong lists (place + 1) result
+    (lists : List (List ServedRequest)) → IsNextAmong lists place found
+    → first_cycle (slice_index_or lists place []) ≡ cycle → IsNextAmong lists (place + 1) result
 
 -- the one at this place goes on earliest of all lists
 pub record IsNext (lists : List (List ServedRequest)) (place : ℕ) : Type 0 where

@@ -1,12 +1,14 @@
 -- The requests that a run served, and when each was where.
 --     arrival_of s history channel source      the cycle in which the request of an entry reaches a channel
+--     cycles_from first cycle      the cycles between two, of which there may not be the second one
+--     reply_latency row      how long a request waited for its reply
 --     if_within cycles cycle      a cycle, if it is one of the first so many
 --     reply_cycle s core channel served      the cycle in which the data of a read comes to its core
 --     replied_in s cycles access core channel served      the same, if the request has a reply and it comes in the run
 --     request_for s history access i source      the request of an entry that a command serves
 --     request_by s history i command      the same for the command of any kind, where it serves one
 --     requests_of s history      the requests that the commands of a history serve, in their order
-use Rattle.std.specs.Prelude.{ℕ, ◌+◌, nat_lt, List, length, filter_map, Option, Some, None, if◌then◌else◌}
+use Rattle.std.specs.Prelude.{ℕ, ◌+◌, ◌-◌, nat_lt, List, length, filter_map, Option, Some, None, if◌then◌else◌}
 use Rattle.sim_base.specs.declared.config.Config.{Config}
 use Rattle.sim_base.specs.Config.{request_link, reply_link, latency}
 use Rattle.sim_base.specs.Counts.{issue_cycle, is_hit}
@@ -23,7 +25,17 @@ use Rattle.request_table.specs.declared.times.RequestTimes.{RequestTimes}
 -- the cycle in which the request of an entry reaches a channel: its core issues the entry, and the request travels the
 -- link of the two
 abbrev pub arrival_of : Config → List MachineStep → ℕ → Source → ℕ
-arrival_of s history channel source = issue_cycle (steps_of_core source.core history) source.entry + latency s (request_link s source.core channel)
+arrival_of s history channel source =
+    issue_cycle (steps_of_core source.core history) source.entry + latency s (request_link s source.core channel)
+
+-- the cycles from one on until another, if there is that one; 0 otherwise
+abbrev pub cycles_from : ℕ → Option ℕ → ℕ
+cycles_from first (Some cycle) = cycle - first
+cycles_from first None = 0
+
+-- how long a request waited for its reply; 0 where it had none
+abbrev pub reply_latency : RequestTimes → ℕ
+reply_latency row = cycles_from row.issued row.replied
 
 -- a cycle, if it is one of the first so many
 abbrev pub if_within : ℕ → ℕ → Option ℕ

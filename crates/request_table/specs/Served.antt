@@ -19,8 +19,10 @@ served_of arrivals hit channel cycle access source =
 
 -- the request that a command serves, if it is a column command
 abbrev pub served_by : (Source → ℕ) → Bool → ℕ → ℕ → Command → Option ServedRequest
-served_by arrivals hit channel cycle (Rd bank row column source) = Some (served_of arrivals hit channel cycle Read source)
-served_by arrivals hit channel cycle (Wr bank row column source) = Some (served_of arrivals hit channel cycle Write source)
+served_by arrivals hit channel cycle (Rd bank row column source) =
+    Some (served_of arrivals hit channel cycle Read source)
+served_by arrivals hit channel cycle (Wr bank row column source) =
+    Some (served_of arrivals hit channel cycle Write source)
 served_by arrivals hit channel cycle (Act bank row source) = None
 served_by arrivals hit channel cycle (Pre bank source) = None
 served_by arrivals hit channel cycle (Prea rank) = None

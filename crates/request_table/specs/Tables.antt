@@ -32,11 +32,11 @@ served_at lists cycle = flat_map (λ rows. filter (λ row. row.served == cycle) 
 unfoldable pub by_cycle : ℕ → List (List ServedRequest) → List ServedRequest
 by_cycle cycles lists = flat_map (served_at lists) (below cycles)
 
--- those that were served up to a cycle
+-- the requests of a list that were served up to a cycle
 abbrev pub rows_up_to : ℕ → List ServedRequest → List ServedRequest
 rows_up_to cycle rows = filter (λ row. nat_le row.served cycle) rows
 
--- those that were served after a cycle
+-- the requests of a list that were served after a cycle
 abbrev pub rows_after : ℕ → List ServedRequest → List ServedRequest
 rows_after cycle rows = filter (λ row. nat_lt cycle row.served) rows
 

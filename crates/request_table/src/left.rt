@@ -102,7 +102,7 @@ impl<'a> Left<'a> {
         )
     }
 
-    /// Those that were served up to a cycle.
+    /// The requests that were served up to a cycle.
     pub(crate) fn up_to(&self, cycle: Cycle) -> Left<'a>
         requires { IsInOrder self.now }
         ensures { result ≡ rows_up_to cycle self.now }
@@ -112,7 +112,7 @@ impl<'a> Left<'a> {
         }
     }
 
-    /// Those that were served after a cycle.
+    /// The requests that were served after a cycle.
     pub(crate) fn after(&self, cycle: Cycle) -> Left<'a>
         requires { IsInOrder self.now }
         ensures { result ≡ rows_after cycle self.now }

@@ -20,7 +20,8 @@ use Rattle.sim_base.specs.Rules.{rules, is_kind, kind_of, rank_of, bank_of, rela
 use Rattle.rule_check.specs.Fields.{limits_of, BankFits, CommandFits, RowFits}
 use Rattle.rule_check.specs.Broken.{is_too_close, breaks_distance, breaks_window, breaks_refresh, is_overdue, breaks_in_channel}
 use Rattle.rule_check.specs.Kept.{lies, any_bank, nothing, latest_of, noted_where, latest_where, window_where, window_from, activates, deadline_where, deadline_from}
-use Rattle.rule_check.specs.Kept.{bank_past, bank_after, group_past, group_after, rank_past, rank_after, number_of, bank_numbered, group_number, IsKept}
+use Rattle.rule_check.specs.Kept.{bank_past, bank_after, group_past, group_after, rank_past, rank_after, group_number, IsKept}
+use Rattle.sim_base.specs.Places.{number_of_bank, bank_at}
 use Rattle.rule_check.specs.Kept.{kept, kept_in_bank, kept_in_group, kept_across_groups, kept_in_rank, kept_across_ranks, is_ahead, is_too_soon, kept_breaks_distance, kept_breaks_window, kept_overdue, kept_breaks_refresh, kept_row, has_kept_open_in_group, has_kept_open, kept_finds_banks, kept_breaks}
 use Rattle.sim_base.specs.Scheduling.{refreshes}
 use Rattle.sim_base.proofs.OpenRows.{open_row-push}
@@ -32,6 +33,7 @@ use Rattle.rule_check.specs.declared.state.Channel.{Channel}
 use Rattle.rule_check.proofs.Near.{latest_of-nothing, too_close-any}
 use Rattle.rule_check.proofs.Windows.{window-recent}
 use Rattle.rule_check.proofs.Deadlines.{deadline-overdue}
+use Rattle.sim_base.proofs.Banks.{bank_at_number}
 
 -- ONE ROW MORE
 
@@ -76,7 +78,7 @@ pub record IsNoted (c after : Channel) (s : Config) (i : IssuedCommand) : Type 0
   pub all_banks : length after.banks.items ≡ length c.banks.items
   pub all_groups : length after.groups.items ≡ length c.groups.items
   pub all_ranks : length after.ranks.items ≡ length c.ranks.items
-  pub each_bank : (k : ℕ) (d : Bank) → k < length c.banks.items → get_or after.banks.items k d ≡ bank_after (bank_numbered k) i.cycle i.command (get_or c.banks.items k d)
+  pub each_bank : (k : ℕ) (d : Bank) → k < length c.banks.items → get_or after.banks.items k d ≡ bank_after (bank_at k) i.cycle i.command (get_or c.banks.items k d)
   pub each_group : (k : ℕ) (d : Group) → k < length c.groups.items → get_or after.groups.items k d ≡ group_after (k / 4) (k % 4) i.cycle i.command (get_or c.groups.items k d)
   pub each_rank : (k : ℕ) (d : Rank) → k < length c.ranks.items → get_or after.ranks.items k d ≡ rank_after s.timing k i.cycle i.command (get_or c.ranks.items k d)
 
@@ -87,8 +89,8 @@ kept-more c after s history i n h =
       group_count = n.all_groups ∙ h.group_count;
       rank_count = n.all_ranks ∙ h.rank_count;
       banks = λ k d l.
-          n.each_bank k d (omega (arith, h.bank_count)) ∙ ap (bank_after (bank_numbered k) i.cycle i.command) (h.banks k d l)
-          ∙ bank-more history i (bank_numbered k);
+          n.each_bank k d (omega (arith, h.bank_count)) ∙ ap (bank_after (bank_at k) i.cycle i.command) (h.banks k d l)
+          ∙ bank-more history i (bank_at k);
       groups = λ k d l.
           n.each_group k d (omega (arith, h.group_count)) ∙ ap (group_after (k / 4) (k % 4) i.cycle i.command) (h.groups k d l)
           ∙ group-more history i (k / 4) (k % 4);
@@ -99,24 +101,17 @@ kept-more c after s history i n h =
 
 -- WHAT IS READ
 
-bank_numbered-number_of : (bank : BankId) → bank.group < 4 → bank.bank < 4 → bank_numbered (number_of bank) ≡ bank
-bank_numbered-number_of bank g b =
-    let rank : number_of bank / 16 ≡ bank.rank = omega arith in
-    let group : number_of bank / 4 % 4 ≡ bank.group = omega arith in
-    let last : number_of bank % 4 ≡ bank.bank = omega arith in
-    λ i. record { rank = rank i; group = group i; bank = last i }
-
 bank-read : (c : Channel) (s : Config) (history : List IssuedCommand) (b : BankId) → IsKept c s history → BankFits (limits_of s) b
-    → slice_get c.banks.items (number_of b) ≡ Some (bank_past history b)
+    → slice_get c.banks.items (number_of_bank b) ≡ Some (bank_past history b)
 bank-read c s history b k f =
     let few = s.memory_in_range.groups_in.0.1 in
     let rank = f.rank_in_range in
     let group = f.group_in_range in
     let last = f.bank_in_range in
-    let inside : number_of b < 16 * s.ranks = omega arith in
+    let inside : number_of_bank b < 16 * s.ranks = omega arith in
     let d = bank_past history b in
-    slice_get-get_or c.banks.items (number_of b) d (omega (arith, k.bank_count))
-    ∙ ap Some (k.banks (number_of b) d inside ∙ ap (bank_past history) (bank_numbered-number_of b (omega arith) last))
+    slice_get-get_or c.banks.items (number_of_bank b) d (omega (arith, k.bank_count))
+    ∙ ap Some (k.banks (number_of_bank b) d inside ∙ ap (bank_past history) (bank_at_number b (omega arith) last))
 
 group-read : (c : Channel) (s : Config) (history : List IssuedCommand) (b : BankId) → IsKept c s history → BankFits (limits_of s) b
     → slice_get c.groups.items (group_number b) ≡ Some (group_past history b.rank b.group)

@@ -7,20 +7,17 @@ use Rattle.sim_base.specs.declared.config.Config.{Config}
 use Rattle.sim_base.specs.declared.command.IssuedCommand.{IssuedCommand}
 use Rattle.sim_base.specs.declared.fault.Fault.{Fault}
 use Rattle.sim_base.specs.declared.fault.Fault.TheVariants.{CheckRow}
+use Rattle.sim_base.proofs.Lists.{cond-none}
 use Rattle.rule_check.specs.Fields.{limits_of, is_header, row_in}
 use Rattle.rule_check.specs.Broken.{breaks, lowest_broken}
 use Rattle.rule_check.specs.Verdict.{verdict, verdict_after, decided_by_row, decided_by_rule, IsLegalTable}
 use Rattle.rule_check.specs.declared.verdict.Verdict.{Verdict}
 use Rattle.rule_check.specs.declared.verdict.Verdict.TheVariants.{Legal}
 
-found-parts : (b : Bool) (x : ℕ) (o : Option ℕ) → cond b (Some x) o ≡ None → (b ≡ false) × (o ≡ None)
-found-parts true x o e = cc e
-found-parts false x o e = (refl, e)
-
 none-found : (p : ℕ → Bool) (a n : ℕ) → find p (range_with_len a n) ≡ None → (k : ℕ) → a ≤ k → k < a + n → p k ≡ false
 none-found p a zero e k l m = absurd (omega arith)
 none-found p a (suc n) e k l m =
-    let h = found-parts (p a) a (find p (range_with_len (a + 1) n)) e in
+    let h = cond-none (p a) a (find p (range_with_len (a + 1) n)) e in
     elim (cases_eq k a) [
       | inl same ↦ ap p same ∙ h.0
       | inr apart ↦ none-found p (a + 1) n h.1 k (omega arith) (omega arith)

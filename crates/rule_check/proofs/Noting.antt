@@ -6,7 +6,8 @@ use Rattle.std.proofs.lemmas.List.{length-replicate, get_or-replicate}
 use Rattle.sim_base.specs.declared.config.Config.{Config}
 use Rattle.sim_base.specs.Rules.{open_row}
 use Rattle.sim_base.proofs.Lists.{with_items_lent}
-use Rattle.rule_check.specs.Kept.{nothing, latest_where, no_window, window_from, first_deadline, deadline_from, bank_past, bank_numbered, group_past, rank_past, IsKept}
+use Rattle.rule_check.specs.Kept.{nothing, latest_where, no_window, window_from, first_deadline, deadline_from, bank_past, group_past, rank_past, IsKept}
+use Rattle.sim_base.specs.Places.{bank_at}
 use Rattle.rule_check.specs.declared.state.Bank.{Bank}
 use Rattle.rule_check.specs.declared.state.Group.{Group}
 use Rattle.rule_check.specs.declared.state.Rank.{Rank}
@@ -22,7 +23,7 @@ items-changed {X} v items lent states f put is long each =
       λ k d l. ap (λ (xs : List X). get_or xs k d) all ∙ each k d (rw is l) ∙ ap (λ (xs : List X). f k (get_or xs k d)) is,
     )
 
-bank-none : (b : ℕ) → bank_past [] (bank_numbered b) ≡ record { latest = nothing; row = None }
+bank-none : (b : ℕ) → bank_past [] (bank_at b) ≡ record { latest = nothing; row = None }
 unfolding latest_where open_row
 bank-none b = λ i. record { latest = nothing; row = None }
 

@@ -11,7 +11,8 @@ use Rattle.sim_base.specs.declared.config.Config.{Config}
 use Rattle.sim_base.specs.declared.command.IssuedCommand.{IssuedCommand}
 use Rattle.sim_base.specs.Rules.{rules}
 use Rattle.rule_check.specs.Fields.{limits_of, RowFits}
-use Rattle.rule_check.specs.Broken.{rows_on, last_row, stands_wrongly, breaks, lowest_broken}
+use Rattle.rule_check.specs.Broken.{last_row, stands_wrongly, breaks, lowest_broken}
+use Rattle.sim_base.specs.History.{commands_on}
 use Rattle.rule_check.specs.Kept.{IsKept}
 use Rattle.rule_check.specs.Past.{IsPast, past_breaks}
 use Rattle.rule_check.specs.declared.state.Channel.{Channel}
@@ -19,8 +20,8 @@ use Rattle.rule_check.specs.declared.state.Past.{Past}
 use Rattle.rule_check.proofs.Keeping.{breaks-is}
 
 channel-kept : (past : Past) (s : Config) (rows : List IssuedCommand) (row : IssuedCommand) (c : Channel) → IsPast past s rows → RowFits (limits_of s) row
-    → c ≡ get_or past.channels.items row.channel c → IsKept c s (rows_on row.channel rows)
-channel-kept past s rows row c h f read = subst (λ (x : Channel). IsKept x s (rows_on row.channel rows)) (sym read) (h.channels row.channel c f.channel_in_range)
+    → c ≡ get_or past.channels.items row.channel c → IsKept c s (commands_on row.channel rows)
+channel-kept past s rows row c h f read = subst (λ (x : Channel). IsKept x s (commands_on row.channel rows)) (sym read) (h.channels row.channel c f.channel_in_range)
 
 -- the lowest rule by what is kept is the lowest rule
 pub lowest-is : (past : Past) (s : Config) (rows : List IssuedCommand) (row : IssuedCommand) (c : Channel) → IsPast past s rows → RowFits (limits_of s) row
@@ -29,29 +30,29 @@ pub lowest-is : (past : Past) (s : Config) (rows : List IssuedCommand) (row : Is
 unfolding lowest_broken breaks
 lowest-is past s rows row c h f read =
     let k = channel-kept past s rows row c h f read in
-    λ x. find (λ number. cond (number == 1) (stands_wrongly (h.last x) row) (breaks-is c s (rows_on row.channel rows) row number k f x)) (range_with_len 1 21)
+    λ x. find (λ number. cond (number == 1) (stands_wrongly (h.last x) row) (breaks-is c s (commands_on row.channel rows) row number k f x)) (range_with_len 1 21)
 
 pub last_row-more : (rows : List IssuedCommand) (row : IssuedCommand) → last_row (rows ++ row ∷ []) ≡ Some row
 unfolding last_row
 last_row-more rows row = fold-append (λ last (i : IssuedCommand). Some i) None rows (row ∷ [])
 
-rows_on-own : (rows : List IssuedCommand) (row : IssuedCommand) → rows_on row.channel (rows ++ row ∷ []) ≡ rows_on row.channel rows ++ row ∷ []
-rows_on-own rows row =
+commands_on-own : (rows : List IssuedCommand) (row : IssuedCommand) → commands_on row.channel (rows ++ row ∷ []) ≡ commands_on row.channel rows ++ row ∷ []
+commands_on-own rows row =
     filter-append (λ (i : IssuedCommand). i.channel == row.channel) rows (row ∷ [])
-    ∙ ap (λ t. rows_on row.channel rows ++ t) (cond-true (row.channel == row.channel) (row ∷ []) [] (eq-eqb row.channel row.channel refl))
+    ∙ ap (λ t. commands_on row.channel rows ++ t) (cond-true (row.channel == row.channel) (row ∷ []) [] (eq-eqb row.channel row.channel refl))
 
-rows_on-other : (rows : List IssuedCommand) (row : IssuedCommand) (k : ℕ) → k ≢ row.channel → rows_on k (rows ++ row ∷ []) ≡ rows_on k rows
-rows_on-other rows row k h =
+commands_on-other : (rows : List IssuedCommand) (row : IssuedCommand) (k : ℕ) → k ≢ row.channel → commands_on k (rows ++ row ∷ []) ≡ commands_on k rows
+commands_on-other rows row k h =
     filter-append (λ (i : IssuedCommand). i.channel == k) rows (row ∷ [])
-    ∙ ap (λ t. rows_on k rows ++ t) (cond-false (row.channel == k) (row ∷ []) [] (ne_eqb row.channel k (λ e. h (sym e))))
-    ∙ append-nil (rows_on k rows)
+    ∙ ap (λ t. commands_on k rows ++ t) (cond-false (row.channel == k) (row ∷ []) [] (ne_eqb row.channel k (λ e. h (sym e))))
+    ∙ append-nil (commands_on k rows)
 
 -- one row more
 pub past-more : (past after : Past) (s : Config) (rows : List IssuedCommand) (row : IssuedCommand) (c c' : Channel) → IsPast past s rows → RowFits (limits_of s) row
     → c ≡ get_or past.channels.items row.channel c → after.last ≡ Some row → after.channels.items ≡ set past.channels.items row.channel c'
     → ((history : List IssuedCommand) → IsKept c s history → IsKept c' s (history ++ row ∷ [])) → IsPast after s (rows ++ row ∷ [])
 past-more past after s rows row c c' h f read last put more =
-    let kept = more (rows_on row.channel rows) (channel-kept past s rows row c h f read) in
+    let kept = more (commands_on row.channel rows) (channel-kept past s rows row c h f read) in
     record {
       last = last ∙ sym (last_row-more rows row);
       channel_count = ap length put ∙ length-set past.channels.items row.channel c' ∙ h.channel_count;
@@ -61,13 +62,13 @@ past-more past after s rows row c c' h f read last put more =
                 let value : get_or after.channels.items k d ≡ c' =
                 ap (λ (xs : List Channel). get_or xs k d) put ∙ ap (λ n. get_or (set past.channels.items row.channel c') n d) same
                 ∙ get_or-set_same past.channels.items row.channel c' d (omega (arith, h.channel_count, f.channel_in_range)) in
-                let those : rows_on k (rows ++ row ∷ []) ≡ rows_on row.channel rows ++ row ∷ [] = ap (λ n. rows_on n (rows ++ row ∷ [])) same ∙ rows_on-own rows row in
-                subst (λ (x : Channel). IsKept x s (rows_on k (rows ++ row ∷ []))) (sym value) (subst (λ (t : List IssuedCommand). IsKept c' s t) (sym those) kept)
+                let those : commands_on k (rows ++ row ∷ []) ≡ commands_on row.channel rows ++ row ∷ [] = ap (λ n. commands_on n (rows ++ row ∷ [])) same ∙ commands_on-own rows row in
+                subst (λ (x : Channel). IsKept x s (commands_on k (rows ++ row ∷ []))) (sym value) (subst (λ (t : List IssuedCommand). IsKept c' s t) (sym those) kept)
             | inr apart ↦
                 let value : get_or after.channels.items k d ≡ get_or past.channels.items k d =
                 ap (λ (xs : List Channel). get_or xs k d) put ∙ get_or-set_other past.channels.items row.channel k c' d apart in
-                subst (λ (x : Channel). IsKept x s (rows_on k (rows ++ row ∷ []))) (sym value)
-                (subst (λ (t : List IssuedCommand). IsKept (get_or past.channels.items k d) s t) (sym (rows_on-other rows row k apart)) (h.channels k d l))
+                subst (λ (x : Channel). IsKept x s (commands_on k (rows ++ row ∷ []))) (sym value)
+                (subst (λ (t : List IssuedCommand). IsKept (get_or past.channels.items k d) s t) (sym (commands_on-other rows row k apart)) (h.channels k d l))
           ];
     }
 

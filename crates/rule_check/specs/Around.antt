@@ -24,7 +24,8 @@ latest_at around AcrossRanks = around.other_ranks.now
 
 -- a command of a kind comes too soon in a cycle, by a rule
 abbrev pub is_ahead_by : Around → Kind → ℕ → Rule → Bool
-is_ahead_by around which now r = is_kind r.later which && is_ahead now r.cycles (latest_of (latest_at around r.scope) r.earlier)
+is_ahead_by around which now r =
+    is_kind r.later which && is_ahead now r.cycles (latest_of (latest_at around r.scope) r.earlier)
 
 -- an `Around` has what is kept of a channel for such a command
 pub record IsAround (around : Around) (c : Channel) (rank : ℕ) (bank : Option BankId) : Type 0 where

@@ -94,7 +94,8 @@ operands_are_named ranks fields =
 -- a record has the names of the columns, and nothing else
 unfoldable pub is_header : ℕ → List (List ℕ) → Bool
 is_header ranks fields =
-    (length fields == column_count ranks) && bytes_eq (text_at fields 0) (codes "cycle") && bytes_eq (text_at fields 1) (codes "channel")
+    (length fields == column_count ranks) && bytes_eq (text_at fields 0) (codes "cycle")
+    && bytes_eq (text_at fields 1) (codes "channel")
     && bytes_eq (text_at fields 2) (codes "command") && rank_is_named ranks fields && operands_are_named ranks fields
 
 -- a field is empty
@@ -156,7 +157,8 @@ unfoldable pub pre_in : Limits → List (List ℕ) → Option Command
 pre_in limits fields = do
   bank ← bank_in limits fields
   source ← source_in limits fields
-  if is_empty (row_text limits.ranks fields) && is_empty (column_text limits.ranks fields) then Some (Pre bank source) else None
+  if is_empty (row_text limits.ranks fields)
+      && is_empty (column_text limits.ranks fields) then Some (Pre bank source) else None
 
 -- no field but that of the rank is filled
 unfoldable pub has_no_operands : ℕ → List (List ℕ) → Bool

@@ -32,6 +32,7 @@ use Rattle.rule_check.specs.declared.state.Bank.{Bank}
 use Rattle.rule_check.specs.declared.state.Group.{Group}
 use Rattle.rule_check.specs.declared.state.Rank.{Rank}
 use Rattle.rule_check.specs.declared.state.Channel.{Channel}
+use Rattle.sim_base.specs.Places.{bank_at, number_of_bank}
 
 -- a rule of this scope that binds both kinds binds a command to a later one of this rank and this bank, if any
 abbrev pub lies : Scope → ℕ → Option BankId → Command → Bool
@@ -91,7 +92,8 @@ window_where counts end w = if counts then window_after end w else w
 
 -- the four latest of the cycles from which on an ACT of a rank no longer counts
 unfoldable pub window_from : Timing → ℕ → List IssuedCommand → ActWindow
-window_from t rank history = fold (λ w i. window_where (activates rank i.command) (i.cycle + t.n_faw) w) no_window history
+window_from t rank history =
+    fold (λ w i. window_where (activates rank i.command) (i.cycle + t.n_faw) w) no_window history
 
 -- the cycle after which the next refresh of a rank is overdue, after one more refresh; it stays once no cycle of a
 -- table is later
@@ -108,7 +110,8 @@ first_deadline s = s.timing.n_refi + refresh_slack s
 
 -- the cycle after which the next refresh of a rank is overdue
 unfoldable pub deadline_from : Config → ℕ → List IssuedCommand → ℕ
-deadline_from s rank history = fold (λ d i. deadline_where (refreshes rank i.command) s.timing.n_refi d) (first_deadline s) history
+deadline_from s rank history =
+    fold (λ d i. deadline_where (refreshes rank i.command) s.timing.n_refi d) (first_deadline s) history
 
 -- a bank of a group, which stands for all of them
 abbrev pub any_bank : ℕ → ℕ → Option BankId
@@ -156,16 +159,9 @@ rank_after t rank cycle command state =
       deadline = deadline_where (refreshes rank command) t.n_refi state.deadline;
     }
 
--- the number of a bank, each rank having places for four groups of four banks, and the bank with a number
-abbrev pub number_of : BankId → ℕ
-number_of bank = bank.rank * 16 + bank.group * 4 + bank.bank
-
 -- a bank is one of these: its group has four banks, and its rank four groups at most
 abbrev pub HasPlace : List Bank → BankId → Type 0
-HasPlace banks bank = (bank.group < 4) × (bank.bank < 4) × (number_of bank < length banks)
-
-abbrev pub bank_numbered : ℕ → BankId
-bank_numbered k = record { rank = k / 16; group = k / 4 % 4; bank = k % 4 }
+HasPlace banks bank = (bank.group < 4) × (bank.bank < 4) × (number_of_bank bank < length banks)
 
 -- the number of a group
 abbrev pub group_number : BankId → ℕ
@@ -173,32 +169,38 @@ group_number bank = bank.rank * 4 + bank.group
 
 -- each element of a list is changed, by its place
 abbrev pub ChangesEach : {X : Type 0} → (ℕ → X → X) → List X → List X → Type 0
-ChangesEach {X} change before after = (k : ℕ) (d : X) → k < length before → slice_index_or after k d ≡ change k (slice_index_or before k d)
+ChangesEach {X} change before after =
+    (k : ℕ) (d : X) → k < length before → slice_index_or after k d ≡ change k (slice_index_or before k d)
 
 -- a `Channel` keeps just this of the rows of a channel
 pub record IsKept (c : Channel) (s : Config) (history : List IssuedCommand) : Type 0 where
   pub bank_count : length c.banks.items ≡ 16 * s.ranks
   pub group_count : length c.groups.items ≡ 4 * s.ranks
   pub rank_count : length c.ranks.items ≡ s.ranks
-  pub banks : (k : ℕ) (d : Bank) → k < 16 * s.ranks → slice_index_or c.banks.items k d ≡ bank_past history (bank_numbered k)
-  pub groups : (k : ℕ) (d : Group) → k < 4 * s.ranks → slice_index_or c.groups.items k d ≡ group_past history (k / 4) (k % 4)
+  pub banks : (k : ℕ) (d : Bank) → k < 16 * s.ranks → slice_index_or c.banks.items k d ≡ bank_past history (bank_at k)
+  pub groups : (k : ℕ) (d : Group) → k < 4 * s.ranks
+      → slice_index_or c.groups.items k d ≡ group_past history (k / 4) (k % 4)
   pub ranks : (k : ℕ) (d : Rank) → k < s.ranks → slice_index_or c.ranks.items k d ≡ rank_past s history k
 
 -- the latest command of a kind that is in a given relation to a later one, by what is kept
 abbrev pub kept_in_bank : List Bank → BankId → Kind → Option ℕ
-kept_in_bank banks bank which = option_and_then (λ (state : Bank). latest_of state.latest which) (slice_get banks (number_of bank))
+kept_in_bank banks bank which =
+    option_and_then (λ (state : Bank). latest_of state.latest which) (slice_get banks (number_of_bank bank))
 
 abbrev pub kept_in_group : List Group → BankId → Kind → Option ℕ
-kept_in_group groups bank which = option_and_then (λ (state : Group). latest_of state.within which) (slice_get groups (group_number bank))
+kept_in_group groups bank which =
+    option_and_then (λ (state : Group). latest_of state.within which) (slice_get groups (group_number bank))
 
 abbrev pub kept_across_groups : List Group → BankId → Kind → Option ℕ
-kept_across_groups groups bank which = option_and_then (λ (state : Group). latest_of state.across which) (slice_get groups (group_number bank))
+kept_across_groups groups bank which =
+    option_and_then (λ (state : Group). latest_of state.across which) (slice_get groups (group_number bank))
 
 abbrev pub kept_in_rank : List Rank → ℕ → Kind → Option ℕ
 kept_in_rank ranks rank which = option_and_then (λ (state : Rank). latest_of state.within which) (slice_get ranks rank)
 
 abbrev pub kept_across_ranks : List Rank → ℕ → Kind → Option ℕ
-kept_across_ranks ranks rank which = option_and_then (λ (state : Rank). latest_of state.across which) (slice_get ranks rank)
+kept_across_ranks ranks rank which =
+    option_and_then (λ (state : Rank). latest_of state.across which) (slice_get ranks rank)
 
 unfoldable pub kept : Channel → Scope → Kind → ℕ → Option BankId → Option ℕ
 kept c InRank which rank bank = kept_in_rank c.ranks.items rank which
@@ -218,7 +220,8 @@ is_ahead now distance (Some cycle) = nat_lt now (cycle + distance)
 -- a row comes too soon by a rule
 unfoldable pub is_too_soon : Channel → Rule → IssuedCommand → Bool
 is_too_soon c r row =
-    is_kind r.later (kind_of row.command) && is_ahead row.cycle r.cycles (kept c r.scope r.earlier (rank_of row.command) (bank_of row.command))
+    is_kind r.later (kind_of row.command)
+    && is_ahead row.cycle r.cycles (kept c r.scope r.earlier (rank_of row.command) (bank_of row.command))
 
 -- by a rule of this number
 unfoldable pub kept_breaks_distance : List Rule → Channel → IssuedCommand → ℕ → Bool
@@ -229,18 +232,21 @@ abbrev pub kept_window : List Rank → ℕ → ℕ
 kept_window ranks rank = unwrap_or (option_map (λ (state : Rank). state.window.fourth) (slice_get ranks rank)) 0
 
 abbrev pub kept_breaks_window : Channel → IssuedCommand → Bool
-kept_breaks_window c row = is_kind (kind_of row.command) kind.Act && nat_lt row.cycle (kept_window c.ranks.items (rank_of row.command))
+kept_breaks_window c row =
+    is_kind (kind_of row.command) kind.Act && nat_lt row.cycle (kept_window c.ranks.items (rank_of row.command))
 
 -- the next refresh of a rank is overdue
 abbrev pub kept_overdue : List Rank → ℕ → ℕ → Bool
-kept_overdue ranks now rank = unwrap_or (option_map (λ (state : Rank). nat_lt state.deadline now) (slice_get ranks rank)) false
+kept_overdue ranks now rank =
+    unwrap_or (option_map (λ (state : Rank). nat_lt state.deadline now) (slice_get ranks rank)) false
 
 abbrev pub kept_breaks_refresh : Config → Channel → IssuedCommand → Bool
-kept_breaks_refresh s c row = nat_lt 0 s.timing.n_refi && list_any (kept_overdue c.ranks.items row.cycle) (below s.ranks)
+kept_breaks_refresh s c row =
+    nat_lt 0 s.timing.n_refi && list_any (kept_overdue c.ranks.items row.cycle) (below s.ranks)
 
 -- the row that is open in a bank
 abbrev pub kept_row : List Bank → BankId → Option ℕ
-kept_row banks bank = option_and_then (λ (state : Bank). state.row) (slice_get banks (number_of bank))
+kept_row banks bank = option_and_then (λ (state : Bank). state.row) (slice_get banks (number_of_bank bank))
 
 abbrev pub has_kept_open_in_group : List Bank → ℕ → ℕ → Bool
 has_kept_open_in_group banks rank group = list_any (λ bank. is_some (kept_row banks (record { rank = rank; group = group; bank = bank }))) (below 4)
@@ -274,4 +280,5 @@ comes_too_soon table c row = list_any (λ r. is_too_soon c r row) table
 -- a row keeps every rule of its channel: the rules are not tested by number, but all at once
 abbrev pub keeps_each : Config → List Rule → Channel → IssuedCommand → Bool
 keeps_each s table c row =
-    kept_finds_banks s c.banks.items row.command && not (kept_breaks_window c row) && not (kept_breaks_refresh s c row) && not (comes_too_soon table c row)
+    kept_finds_banks s c.banks.items row.command && not (kept_breaks_window c row) && not (kept_breaks_refresh s c row)
+    && not (comes_too_soon table c row)

@@ -7,7 +7,8 @@ use Rattle.std.specs.List.{range_with_len}
 use Rattle.sim_base.specs.declared.config.Config.{Config}
 use Rattle.sim_base.specs.declared.rule.Rule.{Rule}
 use Rattle.sim_base.specs.declared.command.IssuedCommand.{IssuedCommand}
-use Rattle.rule_check.specs.Broken.{rows_on, last_row, stands_wrongly}
+use Rattle.rule_check.specs.Broken.{last_row, stands_wrongly}
+use Rattle.sim_base.specs.History.{commands_on}
 use Rattle.rule_check.specs.Kept.{IsKept, kept_breaks}
 use Rattle.rule_check.specs.declared.state.Channel.{Channel}
 use Rattle.rule_check.specs.declared.state.Past.{Past}
@@ -16,11 +17,13 @@ use Rattle.rule_check.specs.declared.state.Past.{Past}
 pub record IsPast (past : Past) (s : Config) (rows : List IssuedCommand) : Type 0 where
   pub last : past.last ≡ last_row rows
   pub channel_count : length past.channels.items ≡ s.channels
-  pub channels : (k : ℕ) (d : Channel) → k < s.channels → IsKept (slice_index_or past.channels.items k d) s (rows_on k rows)
+  pub channels : (k : ℕ) (d : Channel) → k < s.channels
+      → IsKept (slice_index_or past.channels.items k d) s (commands_on k rows)
 
 -- which rules a row breaks, by what is kept: the order of rows (1), or a rule of its channel
 abbrev pub past_breaks : Config → List Rule → Option IssuedCommand → Channel → IssuedCommand → ℕ → Bool
-past_breaks s table last c row number = if number == 1 then stands_wrongly last row else kept_breaks s table c row number
+past_breaks s table last c row number =
+    if number == 1 then stands_wrongly last row else kept_breaks s table c row number
 
 -- the lowest of them; rules are numbered from 1 to 21
 abbrev pub lowest_by : Config → List Rule → Option IssuedCommand → Channel → IssuedCommand → Option ℕ

@@ -4,7 +4,7 @@
 --     IsFaultOf told fault      a fault is that of this verdict, or memory was refused
 --     IsCheckFault fault      why a table may be refused
 --     IsLegalTable s table      it has the header, no malformed record, and each row keeps every rule
-use Rattle.std.specs.Prelude.{◌≡◌, ◌≢◌, ℕ, ◌+◌, ◌<◌, ◌≤◌, false, IsTrue, length, take, map, slice_index_or, List, [], ◌∷◌, ◌++◌, ⊤, Option, Some, None, Result, Ok, Err, if◌then◌else◌}
+use Rattle.std.specs.Prelude.{◌≡◌, ℕ, ◌+◌, ◌<◌, ◌≤◌, false, IsTrue, length, take, map, slice_index_or, List, [], ◌∷◌, ◌++◌, ⊤, Option, Some, None, Result, Ok, Err, if◌then◌else◌}
 use Rattle.csv.specs.Reading.{default_config, records, strip_bom}
 use Rattle.sim_base.specs.declared.config.Config.{Config}
 use Rattle.sim_base.specs.declared.command.IssuedCommand.{IssuedCommand}
@@ -26,7 +26,8 @@ decided_by_rule number (Some rule) rest = Ok (Broken number rule)
 decided_by_rule number None rest = rest
 
 -- so does a malformed record, before any rule is looked at
-abbrev pub decided_by_row : ℕ → (IssuedCommand → Option ℕ) → (IssuedCommand → Result Verdict Fault) → Option IssuedCommand → Result Verdict Fault
+abbrev pub decided_by_row : ℕ → (IssuedCommand → Option ℕ) → (IssuedCommand → Result Verdict Fault)
+    → Option IssuedCommand → Result Verdict Fault
 decided_by_row number broken rest None = Err (CheckRow number)
 decided_by_row number broken rest (Some row) = decided_by_rule number (broken row) (rest row)
 
@@ -35,16 +36,13 @@ decided_by_row number broken rest (Some row) = decided_by_rule number (broken ro
 unfoldable pub verdict_after : Config → List IssuedCommand → ℕ → List (List (List ℕ)) → Result Verdict Fault
 verdict_after s rows number [] = Ok Legal
 verdict_after s rows number (fields ∷ others) =
-    decided_by_row number (lowest_broken s rows) (λ row. verdict_after s (rows ++ row ∷ []) (number + 1) others) (row_in (limits_of s) fields)
+    decided_by_row number (lowest_broken s rows) (λ row. verdict_after s (rows ++ row ∷ []) (number + 1) others)
+    (row_in (limits_of s) fields)
 
 -- The verdict on a table with these records. The first is the header, and those after it are counted from 1.
 unfoldable pub verdict : Config → List (List (List ℕ)) → Result Verdict Fault
 verdict s [] = Err (CheckRow 0)
 verdict s (header ∷ others) = if is_header s.ranks header then verdict_after s [] 1 others else Err (CheckRow 0)
-
--- a fault is the one that the definition of the verdict tells, unless memory was refused
-abbrev pub IsFaultOf : Result Verdict Fault → Fault → Type 0
-IsFaultOf told fault = fault ≢ Memory → told ≡ Err fault
 
 -- a row is malformed, or memory was refused
 abbrev pub IsCheckFault : Fault → Type 0
@@ -55,7 +53,8 @@ IsCheckFault _ = ⊥
 -- each row of a table keeps every rule over the rows before it
 abbrev pub KeepsRules : Config → List IssuedCommand → Type 0
 KeepsRules s rows =
-    (i number : ℕ) (d : IssuedCommand) → i < length rows → 1 ≤ number → number ≤ 21 → breaks s (take i rows) (slice_index_or rows i d) number ≡ false
+    (i number : ℕ) (d : IssuedCommand) → i < length rows → 1 ≤ number → number ≤ 21
+    → breaks s (take i rows) (slice_index_or rows i d) number ≡ false
 
 -- the records of a table without fault: the header, and then records that write rows which keep every rule
 pub record IsLegalTable (s : Config) (table : List (List (List ℕ))) : Type 0 where

@@ -2,10 +2,11 @@
 
 ghost use Rattle.std.specs.Prelude.{◌≡◌, slice_get, unwrap_or};
 ghost use Rattle.sim_base.specs.Rules.{is_kind, rank_of, bank_of};
-ghost use Rattle.rule_check.specs.Kept.{number_of, group_number};
+ghost use Rattle.rule_check.specs.Kept.{group_number};
+ghost use Rattle.sim_base.specs.Places.{number_of_bank};
 ghost use Rattle.rule_check.specs.Around.{latest_at, is_ahead_by, IsAround};
 
-use crate::channel::{group_number, number_of};
+use crate::channel::group_number;
 use crate::latest::{Latest, is_ahead, latest_of};
 use crate::state::{Bank, Channel, Group, NEW_BANK, NEW_GROUP, NEW_RANK, Rank};
 use sim_base::command::{Command, Kind};
@@ -24,9 +25,9 @@ pub(crate) struct Around<'c> {
 
 /// What is kept of a bank; if nothing is, what is kept of a new one.
 pub(crate) fn bank_at(banks: &[Bank], bank: BankId) -> &Bank
-    ensures { result.now ≡ unwrap_or (slice_get banks.now (number_of bank)) NEW_BANK }
+    ensures { result.now ≡ unwrap_or (slice_get banks.now (number_of_bank bank)) NEW_BANK }
 {
-    banks.get(number_of(bank)).unwrap_or(&NEW_BANK)
+    banks.get(bank.number()).unwrap_or(&NEW_BANK)
 }
 
 fn group_at(groups: &[Group], bank: BankId) -> &Group

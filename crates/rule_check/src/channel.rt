@@ -4,10 +4,10 @@ ghost use Rattle.std.specs.Prelude.{◌≡◌, ◌+◌, ◌*◌, ◌/◌, ◌%�
 ghost use Rattle.sim_base.specs.declared.config.Config.{Config};
 ghost use Rattle.sim_base.specs.declared.command.IssuedCommand.{IssuedCommand};
 ghost use Rattle.sim_base.specs.Rules.{bank_of};
-ghost use Rattle.sim_base.specs.Scheduling.{refreshes};
 ghost use Rattle.rule_check.specs.Numbers.{number_limit};
 ghost use Rattle.rule_check.specs.Fields.{limits_of, RowFits};
-ghost use Rattle.rule_check.specs.Kept.{activates, deadline_after, first_deadline, bank_after, group_after, rank_after, number_of, HasPlace, bank_numbered, group_number, ChangesEach, IsKept};
+ghost use Rattle.rule_check.specs.Kept.{activates, deadline_after, first_deadline, bank_after, group_after, rank_after, HasPlace, group_number, ChangesEach, IsKept};
+ghost use Rattle.sim_base.specs.Places.{number_of_bank, bank_at};
 
 use crate::latest;
 use crate::state::{Bank, Channel, Group, NEW_BANK, NEW_GROUP, NEW_RANK, Rank};
@@ -54,12 +54,6 @@ fn activates(rank: u32, command: Command) -> bool
     command.kind().is_kind(Kind::Act) && command.rank() == rank
 }
 
-fn refreshes(rank: u32, command: Command) -> bool
-    ensures { result ≡ refreshes rank command }
-{
-    command.kind().is_kind(Kind::Ref) && command.rank() == rank
-}
-
 fn deadline_after(interval: u32, deadline: u64) -> u64
     ensures { result ≡ deadline_after interval deadline }
 {
@@ -82,15 +76,9 @@ fn note_in_rank(state: &mut Rank, t: &Timing, rank: u32, command: Command, cycle
     if activates(rank, command) {
         state.window = window_after(cycle + u64::from(t.n_faw), state.window);
     }
-    if refreshes(rank, command) {
+    if command.is_refresh_of(rank) {
         state.deadline = deadline_after(t.n_refi, state.deadline);
     }
-}
-
-pub(crate) fn number_of(bank: BankId) -> usize
-    ensures { result ≡ number_of bank }
-{
-    bank.rank as usize * 16 + bank.group as usize * 4 + bank.bank as usize
 }
 
 pub(crate) fn group_number(bank: BankId) -> usize
@@ -99,24 +87,12 @@ pub(crate) fn group_number(bank: BankId) -> usize
     bank.rank as usize * 4 + bank.group as usize
 }
 
-fn bank_numbered(k: usize) -> BankId
-    requires { k < 64 }
-    ensures { result ≡ bank_numbered k }
-{
-    let k = k as u32;
-    BankId {
-        rank: k / 16,
-        group: k / 4 % 4,
-        bank: k % 4,
-    }
-}
-
 fn note_in_all_banks(banks: &mut [Bank], command: Command, cycle: u64)
     requires { length banks.old ≤ 64 }
-    ensures each { ChangesEach (λ k. bank_after (bank_numbered k) cycle command) banks.old banks.new }
+    ensures each { ChangesEach (λ k. bank_after (bank_at k) cycle command) banks.old banks.new }
 {
     for (k, state) in banks.iter_mut().enumerate() {
-        note_in_bank(state, bank_numbered(k), command, cycle);
+        note_in_bank(state, BankId::with_number(k as u32), command, cycle);
     }
 }
 
@@ -124,17 +100,17 @@ fn note_in_own_bank(banks: &mut [Bank], bank: BankId, command: Command, cycle: u
     requires names { bank_of command ≡ Some bank }
     requires group { bank.group < 4 }
     requires bank { bank.bank < 4 }
-    requires number { number_of bank < length banks.old }
-    ensures each { ChangesEach (λ k. bank_after (bank_numbered k) cycle command) banks.old banks.new }
+    requires number { number_of_bank bank < length banks.old }
+    ensures each { ChangesEach (λ k. bank_after (bank_at k) cycle command) banks.old banks.new }
 {
-    note_in_bank(&mut banks[number_of(bank)], bank, command, cycle);
+    note_in_bank(&mut banks[bank.number()], bank, command, cycle);
 }
 
 // A command that names no bank may concern each of them.
 fn note_in_banks(banks: &mut [Bank], command: Command, cycle: u64)
     requires few { length banks.old ≤ 64 }
     requires names { IfSome (bank_of command) (HasPlace banks.old) }
-    ensures each { ChangesEach (λ k. bank_after (bank_numbered k) cycle command) banks.old banks.new }
+    ensures each { ChangesEach (λ k. bank_after (bank_at k) cycle command) banks.old banks.new }
 {
     match command.bank() {
         Some(bank) => note_in_own_bank(banks, bank, command, cycle),
@@ -144,7 +120,8 @@ fn note_in_banks(banks: &mut [Bank], command: Command, cycle: u64)
 
 fn note_in_groups(groups: &mut [Group], command: Command, cycle: u64)
     requires { length groups.old ≤ 16 }
-    ensures each { ChangesEach (λ k. group_after (k / 4) (k % 4) cycle command) groups.old groups.new }
+    ensures each { ChangesEach (λ k. group_after (k / 4) (k % 4) cycle command)
+        groups.old groups.new }
 {
     for (k, state) in groups.iter_mut().enumerate() {
         let rank = k as u32 / 4;

@@ -16,7 +16,7 @@ use sim_base::message::Access;
 use sim_base::place::BankId;
 
 impl Limits {
-    /// Those of a configuration.
+    /// The limits of a configuration: the numbers of a row lie below them.
     pub fn of(config: &Config) -> Limits
         ensures { result ≡ limits_of config.now }
     {

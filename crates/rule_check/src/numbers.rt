@@ -1,7 +1,6 @@
 //! Numbers in the fields of a table.
 
 ghost use Rattle.std.specs.Prelude.{◌≡◌, ◌+◌, ◌-◌, ◌*◌, ◌<◌, ◌≤◌, ◌&&◌, min, IfSome};
-ghost use Rattle.std.specs.Char.{is_ascii_digit};
 ghost use Rattle.rule_check.specs.Numbers.{number_limit, capped_digit, digits_value, number_below};
 
 /// Each number of a table is below this one.
@@ -21,19 +20,13 @@ fn with_digit(number: u64, byte: u8) -> u64
     }
 }
 
-fn is_digit(byte: u8) -> bool
-    ensures { result ≡ is_ascii_digit byte }
-{
-    byte.is_ascii_digit()
-}
-
 // The number that a text writes, if it has only digits; the limit stands for every number not below it.
 fn digits_value(text: &[u8]) -> Option<u64>
     ensures { result ≡ digits_value text.now }
 {
     let mut number = 0;
     for byte in text {
-        if !is_digit(*byte) {
+        if !byte.is_ascii_digit() {
             return None;
         }
         number = with_digit(number, *byte);

@@ -4,7 +4,8 @@ ghost use Rattle.std.specs.Prelude.{◌≡◌, ◌+◌, ◌*◌, ◌<◌, ◌++�
 ghost use Rattle.sim_base.specs.declared.command.IssuedCommand.{IssuedCommand};
 ghost use Rattle.sim_base.specs.Rules.{rules};
 ghost use Rattle.rule_check.specs.Fields.{limits_of, RowFits};
-ghost use Rattle.rule_check.specs.Broken.{stands_before, stands_wrongly, lowest_broken};
+ghost use Rattle.rule_check.specs.Broken.{stands_wrongly, lowest_broken};
+ghost use Rattle.sim_base.specs.History.{stands_before};
 ghost use Rattle.rule_check.specs.Kept.{IsKept};
 ghost use Rattle.rule_check.specs.Past.{IsPast, past_breaks, lowest_by};
 

@@ -7,7 +7,8 @@ ghost use Rattle.sim_base.specs.declared.command.IssuedCommand.{IssuedCommand};
 ghost use Rattle.rule_check.specs.Judged.{Decides, KeepsRow};
 ghost use Rattle.rule_check.specs.Left.{IsReading, left_of};
 ghost use Rattle.rule_check.specs.Past.{IsPast};
-ghost use Rattle.rule_check.specs.Verdict.{records_of, verdict, verdict_after, IsFaultOf, IsCheckFault, IsLegalTable};
+ghost use Rattle.rule_check.specs.Verdict.{records_of, verdict, verdict_after, IsCheckFault, IsLegalTable};
+ghost use Rattle.sim_base.specs.Faults.{IsFaultOf};
 
 use crate::fields::{is_header, row_in};
 use crate::limits::Limits;

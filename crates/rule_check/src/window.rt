@@ -20,7 +20,7 @@ pub(crate) const NO_ACTS: ActWindow = ActWindow {
     fourth: 0,
 };
 
-/// One more ACT, which no longer counts from this cycle on.
+/// The window after one more ACT, which no longer counts from the cycle `end` on.
 pub(crate) fn window_after(end: u64, w: ActWindow) -> ActWindow
     ensures { result ≡ window_after end w }
 {

@@ -4,10 +4,10 @@ use Rattle.std.proofs.lemmas.Bool.{cases_Bool, and_parts, eqb-true, ltb-true}
 use Rattle.sim_base.specs.declared.config.Config.{Config}
 use Rattle.sim_base.specs.declared.command.IssuedCommand.{IssuedCommand}
 use Rattle.sim_base.specs.declared.trace.Entry.{Entry}
-use Rattle.sim_base.specs.History.{commands}
+use Rattle.sim_base.specs.History.{commands, stands_before}
 use Rattle.sim_base.specs.Machine.{run}
 use Rattle.command_table.specs.Tables.{IsRising}
-use Rattle.laws.specs.Tables.{IsOrdered, stands_before}
+use Rattle.laws.specs.Tables.{IsOrdered}
 use Rattle.laws.proofs.Tabled.{tables_are_ordered}
 use Rattle.reports.specs.Commands.{header, command_fields, commands_text}
 use Rattle.rule_check.specs.Fields.{limits_of, is_header, row_in}

@@ -11,7 +11,8 @@ use Rattle.run_tables.specs.Records.{IsFirstWrong, IsRefusedFor}
 use Rattle.run_tables.specs.RequestRows.{request_in, first_request, is_request_header, begins_requests}
 use Rattle.run_tables.specs.Requests.{RequestFits, turn, IsInOrder, IsRequestTable, HoldsRequests}
 use Rattle.run_tables.proofs.OrderedRows.{AreBefore, order_push, before_push, order_take, order_last}
-use Rattle.run_tables.proofs.Refused.{only_memory}
+use Rattle.run_tables.proofs.ReadRows.{last_read}
+use Rattle.run_tables.proofs.Refused.{only_memory, same_rows}
 use Rattle.run_tables.proofs.RequestRows.{request_is, request_back, header_is, header_back}
 
 -- rows that fit are read back, one by one
@@ -24,14 +25,6 @@ rows_back (row ∷ rows) fits =
     let first = request_back row (fits 0 row (omega arith)) in
     let rest = rows_back rows (back_tail row rows fits) in
     cc (first, rest)
-
-same_rows : (rows others : List RequestTimes) → map Some rows ≡ map Some others → rows ≡ others
-same_rows [] [] e = refl
-same_rows [] (row ∷ others) e = cc e
-same_rows (row ∷ rows) [] e = cc e
-same_rows (row ∷ rows) (other ∷ others) e =
-    let first : row ≡ other = cc e in
-    ap (λ (r : RequestTimes). r ∷ rows) first ∙ ap (λ (t : List RequestTimes). other ∷ t) (same_rows rows others (cc e))
 
 -- a table is of one list of rows
 one_list : (all : List (List (List ℕ))) (rows others : List RequestTimes) → IsRequestTable all rows → IsRequestTable all others → rows ≡ others
@@ -126,22 +119,6 @@ rows_read all left rows least row h none = record {
   fits = h.fits;
   in_order = h.in_order;
 }
-
--- the last of some rows, by what it was read from
-record LastRead (rows all : List RequestTimes) (read : Option RequestTimes) : Type 0 where
-  row : RequestTimes
-  is : read ≡ Some row
-  whole : all ≡ rows ++ row ∷ []
-
-last_read : (rows all : List RequestTimes) (read : Option RequestTimes) → map Some all ≡ map Some rows ++ read ∷ [] → LastRead rows all read
-last_read [] [] read e = cc e
-last_read [] (row ∷ []) read e = record { row = row; is = cc e; whole = refl }
-last_read [] (row ∷ next ∷ more) read e = cc e
-last_read (r ∷ rows) [] read e = cc e
-last_read (r ∷ rows) (row ∷ more) read e =
-    let rest = last_read rows more read (cc e) in
-    let same : row ≡ r = cc e in
-    record { row = rest.row; is = rest.is; whole = ap (λ (t : List RequestTimes). row ∷ t) rest.whole ∙ ap (λ (x : RequestTimes). x ∷ (rows ++ rest.row ∷ [])) same }
 
 -- a table that goes on with this record has a row for it, and none that stands before its place
 other_row : (other : List (List (List ℕ))) (fields : List (List ℕ)) (row least : ℕ) (rows others : List RequestTimes) → All RequestFits rows

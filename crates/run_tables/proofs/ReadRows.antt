@@ -1,5 +1,5 @@
 -- What was read of a table of commands so far, and what it says of the next record.
-use Rattle.std.proofs.Common.{◌≡◌, ◌+◌, ◌<◌, ◌≤◌, ◌∙◌, ℕ, suc, List, [], ◌∷◌, ◌++◌, length, map, take, drop, Option, Some, None, IfSome, refl, sym, ap, subst, arith, append_assoc, append-nil, length-append}
+use Rattle.std.proofs.Common.{◌≡◌, ◌+◌, ◌<◌, ◌≤◌, ◌∙◌, ℕ, suc, List, [], ◌∷◌, ◌++◌, length, map, take, drop, Option, Some, None, IfSome, refl, sym, ap, ap₂, subst, arith, append_assoc, append-nil, length-append}
 use Rattle.std.proofs.lemmas.List.{map-append, take-map, take_at}
 use Rattle.sim_base.specs.declared.command.IssuedCommand.{IssuedCommand}
 use Rattle.rule_check.specs.Fields.{row_in}
@@ -75,12 +75,12 @@ rows_read all left limits rows earliest row h none =
     }
 
 -- the last of some rows, by what it was read from
-record LastRead (rows all : List IssuedCommand) (read : Option IssuedCommand) : Type 0 where
-  row : IssuedCommand
-  is : read ≡ Some row
-  whole : all ≡ rows ++ row ∷ []
+pub record LastRead {X : Type 0} (rows all : List X) (read : Option X) : Type 0 where
+  pub row : X
+  pub is : read ≡ Some row
+  pub whole : all ≡ rows ++ row ∷ []
 
-last_read : (rows all : List IssuedCommand) (read : Option IssuedCommand) → map Some all ≡ map Some rows ++ read ∷ [] → LastRead rows all read
+pub last_read : {X : Type 0} (rows all : List X) (read : Option X) → map Some all ≡ map Some rows ++ read ∷ [] → LastRead rows all read
 last_read [] [] read e = cc e
 last_read [] (row ∷ []) read e = record { row = row; is = cc e; whole = refl }
 last_read [] (row ∷ next ∷ more) read e = cc e
@@ -88,7 +88,7 @@ last_read (r ∷ rows) [] read e = cc e
 last_read (r ∷ rows) (row ∷ more) read e =
     let rest = last_read rows more read (cc e) in
     let same : row ≡ r = cc e in
-    record { row = rest.row; is = rest.is; whole = ap (λ (t : List IssuedCommand). row ∷ t) rest.whole ∙ ap (λ (x : IssuedCommand). x ∷ (rows ++ rest.row ∷ [])) same }
+    record { row = rest.row; is = rest.is; whole = ap₂ (λ x xs. x ∷ xs) same rest.whole }
 
 -- a table that goes on with this record has a row for it, and none of an earlier cycle
 other_row : (header : List (List ℕ)) (taken other : List (List (List ℕ))) (fields : List (List ℕ)) (limits : Limits) (row earliest : ℕ) (rows others : List IssuedCommand)

@@ -1,5 +1,5 @@
 -- A table is refused for its first record at fault, or for memory.
-use Rattle.std.proofs.Common.{◌≡◌, ◌≢◌, ◌+◌, ℕ, List, [], ◌∷◌, length, map, take, Some, None, Result, Ok, Err, refl, sym, ap, subst, ◌∙◌, arith}
+use Rattle.std.proofs.Common.{◌≡◌, ◌≢◌, ◌+◌, ℕ, List, [], ◌∷◌, length, map, take, Some, None, Result, Ok, Err, refl, sym, ap, ap₂, subst, ◌∙◌, arith}
 use Rattle.std.specs.Prelude.{IfOk, IfErr, MatchResult}
 use Rattle.std.proofs.lemmas.List.{length-map}
 use Rattle.command_table.specs.Tables.{IsRising}
@@ -58,15 +58,16 @@ header_wrong all told =
       differs = λ other t same. header-differs all other t.0 told t.1 same;
     }
 
--- a table is of one list of commands
-same_rows : (rows others : List IssuedCommand) → map Some rows ≡ map Some others → rows ≡ others
+-- rows are the same where what each was read from gave the same
+pub same_rows : {X : Type 0} (rows others : List X) → map Some rows ≡ map Some others → rows ≡ others
 same_rows [] [] e = refl
 same_rows [] (row ∷ others) e = cc e
 same_rows (row ∷ rows) [] e = cc e
 same_rows (row ∷ rows) (other ∷ others) e =
     let first : row ≡ other = cc e in
-    ap (λ (r : IssuedCommand). r ∷ rows) first ∙ ap (λ (t : List IssuedCommand). other ∷ t) (same_rows rows others (cc e))
+    ap₂ (λ x xs. x ∷ xs) first (same_rows rows others (cc e))
 
+-- a table is of one list of commands
 pub one_list : (all : List (List (List ℕ))) (rows others : List IssuedCommand) → IsCommandTable all rows → IsCommandTable all others → rows ≡ others
 one_list all rows others a b =
     let parts = sym a.parts ∙ b.parts in

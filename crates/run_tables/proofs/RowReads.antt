@@ -6,6 +6,7 @@ use Rattle.std.proofs.lemmas.Option.{slice_get_within}
 use Rattle.std.specs.List.{slice_get}
 use Rattle.sim_base.specs.declared.fault.Fault.{Fault}
 use Rattle.sim_base.specs.declared.fault.Fault.TheVariants.{CheckRow}
+use Rattle.sim_base.proofs.Lists.{get-take}
 use Rattle.sim_base.specs.TraceText.{◌>>=◌}
 
 -- TWO TABLES WITH THE SAME FIRST ROWS
@@ -13,14 +14,8 @@ use Rattle.sim_base.specs.TraceText.{◌>>=◌}
 pub agree_less : (m n : ℕ) (a b : List (List (List ℕ))) → m ≤ n → take n a ≡ take n b → take m a ≡ take m b
 agree_less m n a b few same = sym (take-take m n a few) ∙ ap (take m) same ∙ take-take m n b few
 
-get-take : (n k : ℕ) (a : List (List (List ℕ))) → k < n → slice_get (take n a) k ≡ slice_get a k
-get-take zero k a l = absurd (omega (arith, l))
-get-take (suc n) k [] l = refl
-get-take (suc n) zero (x ∷ xs) l = refl
-get-take (suc n) (suc k) (x ∷ xs) l = get-take n k xs (omega (arith, l))
-
 pub agree_at : (n k : ℕ) (a b : List (List (List ℕ))) → k < n → take n a ≡ take n b → slice_get a k ≡ slice_get b k
-agree_at n k a b l same = sym (get-take n k a l) ∙ ap (λ (t : List (List (List ℕ))). slice_get t k) same ∙ get-take n k b l
+agree_at n k a b l same = sym (get-take a n k l) ∙ ap (λ (t : List (List (List ℕ))). slice_get t k) same ∙ get-take b n k l
 
 -- a record after others
 pub get_after : (p : List (List (List ℕ))) (x : List (List ℕ)) (rest : List (List (List ℕ))) (k : ℕ) → length p ≡ k → slice_get (p ++ x ∷ rest) k ≡ Some x

@@ -9,7 +9,7 @@ use Rattle.std.proofs.lemmas.List.Kept.{AllPairs-cons}
 use Rattle.sim_base.specs.declared.config.Config.{Config}
 use Rattle.sim_base.specs.Counts.{source_in}
 use Rattle.sim_base.specs.MachineStep.{MachineStep}
-use Rattle.sim_base.specs.History.{commands, inbox, issued_commands}
+use Rattle.sim_base.specs.History.{commands, inbox, issued_commands, stands_before}
 use Rattle.sim_base.specs.Machine.{next_step, run}
 use Rattle.sim_base.specs.Scheduling.{request_in, source_of, is_queued, queue_in, queued_requests}
 use Rattle.sim_base.specs.declared.command.Command.{Command}
@@ -22,9 +22,8 @@ use Rattle.sim_base.specs.declared.message.Unit.TheVariants.{Channel}
 use Rattle.sim_base.specs.declared.trace.Entry.{Entry}
 use Rattle.sim_base.proofs.Each.{Each-append, Each-filter_map}
 use Rattle.sim_base.proofs.Ordered.{Each-weaker}
-use Rattle.sim_base.proofs.Spans.{length-run}
+use Rattle.sim_base.proofs.Spans.{length_run}
 use Rattle.laws.specs.Commands.{channel_steps_of}
-use Rattle.laws.specs.Tables.{stands_before}
 use Rattle.laws.proofs.Chosen.{IfSome-weaker}
 use Rattle.laws.proofs.Legal.{channel_steps_of-at}
 use Rattle.laws.proofs.Named.{commands_name_the_queue}
@@ -61,7 +60,7 @@ commands-done s traces n zero h = tt
 commands-done s traces n (suc m) h =
     let history = run s traces m in
     let machine_step = next_step s traces history in
-    subst (Each (IsDone s traces n)) (sym (commands-more history machine_step ∙ ap (λ i. commands history ++ rows_from i 0 machine_step.commands) (length-run s traces m)))
+    subst (Each (IsDone s traces n)) (sym (commands-more history machine_step ∙ ap (λ i. commands history ++ rows_from i 0 machine_step.commands) (length_run s traces m)))
     (Each-append (IsDone s traces n) (commands history) (rows_from m 0 machine_step.commands) (commands-done s traces n m (omega arith))
     (rows-done s traces n m (omega arith) 0 machine_step.commands (next-chosen s traces m)))
 
@@ -138,7 +137,7 @@ unfolding requests_of
 requests-fit s traces n few short =
     let history = run s traces n in
     let rows = commands history in
-    let long = length-run s traces n in
+    let long = length_run s traces n in
     let in_range : All (RowIsOf s) rows = commands_are_in_range s traces n few short in
     let done : All (IsDone s traces n) rows = All-from_recursion (IsDone s traces n) rows (commands-done s traces n n (omega arith)) in
     All-from_recursion RequestFits (requests_of s history)

@@ -18,7 +18,7 @@ use Rattle.sim_base.specs.declared.message.Message.{Message}
 use Rattle.sim_base.specs.declared.message.Unit.TheVariants.{Core, Channel}
 use Rattle.sim_base.specs.declared.trace.Entry.{Entry}
 use Rattle.sim_base.proofs.Each.{IfSome-find}
-use Rattle.sim_base.proofs.Spans.{length-run}
+use Rattle.sim_base.proofs.Spans.{length_run}
 use Rattle.sim_base.proofs.Lists.{count-cons}
 use Rattle.laws.proofs.Answered.{reads_are_answered_once}
 use Rattle.laws.proofs.Bounded.{queues_are_bounded}
@@ -118,7 +118,7 @@ core-range s traces n core few short l =
     let steps = steps_of_core core (run s traces n) in
     let mail = inbox s traces (run s traces n) (Core core) in
     let trace = trace_of traces core in
-    let long = length-steps_of_core core (run s traces n) ∙ length-run s traces n in
+    let long = length-steps_of_core core (run s traces n) ∙ length_run s traces n in
     let keeps = KeepsToTrace-run s traces core l n in
     let issued = keeps.issued in
     let retired = keeps.retired in
@@ -152,7 +152,7 @@ unfolding stats_of
 run-fits s traces n few short =
     let history = run s traces n in
     let lists = recursion_from_All (λ (t : List Entry). length t ≤ 2 ^ 62) traces short in
-    let long = length-run s traces n in
+    let long = length_run s traces n in
     let one_core : 1 ≤ s.cores = s.machine_in_range.cores_in.0 in
     let one_channel : 1 ≤ s.channels = s.machine_in_range.channels_in.0.0 in
     let core_count = length-map-range_with_len (stats_of_core s traces history) 0 s.cores in

@@ -25,7 +25,8 @@ without_rank = record { channels = 16; ranks = 1; groups = 4; rows = 262144; col
 
 -- what the numbers of the table with this header are below, if it is one
 unfoldable pub limits_told : List (List ℕ) → Option Limits
-limits_told header = if is_header 4 header then Some with_rank else if is_header 1 header then Some without_rank else None
+limits_told header =
+    if is_header 4 header then Some with_rank else if is_header 1 header then Some without_rank else None
 
 -- what the first of some records tells, if it is a header
 abbrev pub first_told : List (List (List ℕ)) → Option Limits

@@ -17,7 +17,8 @@ use Rattle.statistics.specs.declared.counters.CounterKind.TheVariants.{Count, Su
 -- whether a record is the line of a count, whatever its value
 abbrev pub is_line : List ℕ → ℕ → List ℕ → List (List ℕ) → Bool
 is_line scope id name fields =
-    (length fields == 4) && bytes_eq (text_at fields 0) scope && bytes_eq (text_at fields 1) (decimal id) && bytes_eq (text_at fields 2) name
+    (length fields == 4) && bytes_eq (text_at fields 0) scope && bytes_eq (text_at fields 1) (decimal id)
+    && bytes_eq (text_at fields 2) name
 
 -- the number in a field, or none where it is empty, if it is one of these
 abbrev pub optional_written : List ℕ → Option (Option ℕ)

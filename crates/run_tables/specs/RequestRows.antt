@@ -30,7 +30,8 @@ replied_in text = if is_empty text then Some None else option_map (λ number. So
 
 -- what a word asks
 unfoldable pub access_in : List ℕ → Option Access
-access_in text = if bytes_eq text (codes "read") then Some Read else if bytes_eq text (codes "write") then Some Write else None
+access_in text =
+    if bytes_eq text (codes "read") then Some Read else if bytes_eq text (codes "write") then Some Write else None
 
 -- whether a digit tells a hit
 unfoldable pub hit_in : List ℕ → Option Bool
@@ -62,7 +63,8 @@ is_reply_to Write served (Some replied) = false
 
 -- no step of a request is before the last one
 abbrev pub follows : RequestTimes → Bool
-follows row = nat_le row.issued row.arrived && nat_le row.arrived row.served && is_reply_to row.access row.served row.replied
+follows row =
+    nat_le row.issued row.arrived && nat_le row.arrived row.served && is_reply_to row.access row.served row.replied
 
 -- a row, if no step of it is before the last one
 abbrev pub in_time : RequestTimes → Option RequestTimes
@@ -103,8 +105,10 @@ first_request (fields ∷ others) = request_in fields
 unfoldable pub is_request_header : List (List ℕ) → Bool
 is_request_header fields =
     (length fields == 9) && bytes_eq (text_at fields 0) (codes "core") && bytes_eq (text_at fields 1) (codes "entry")
-    && bytes_eq (text_at fields 2) (codes "access") && bytes_eq (text_at fields 3) (codes "channel") && bytes_eq (text_at fields 4) (codes "issued")
-    && bytes_eq (text_at fields 5) (codes "arrived") && bytes_eq (text_at fields 6) (codes "served") && bytes_eq (text_at fields 7) (codes "replied")
+    && bytes_eq (text_at fields 2) (codes "access") && bytes_eq (text_at fields 3) (codes "channel")
+    && bytes_eq (text_at fields 4) (codes "issued")
+    && bytes_eq (text_at fields 5) (codes "arrived") && bytes_eq (text_at fields 6) (codes "served")
+    && bytes_eq (text_at fields 7) (codes "replied")
     && bytes_eq (text_at fields 8) (codes "hit")
 
 -- the first of some records is

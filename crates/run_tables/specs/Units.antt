@@ -26,7 +26,8 @@ abbrev pub number_at : List (List (List ℕ)) → ℕ → List ℕ → ℕ → L
 number_at table row scope id counter = number_in counter.1 row scope id counter.0 (slice_get table row)
 
 -- the numbers of a unit's counters, one after the other
-unfoldable pub numbers_at : List (List (List ℕ)) → ℕ → List ℕ → ℕ → List (List ℕ × CounterKind) → Result (List (Option ℕ)) Fault
+unfoldable pub numbers_at : List (List (List ℕ)) → ℕ → List ℕ → ℕ → List (List ℕ × CounterKind)
+    → Result (List (Option ℕ)) Fault
 numbers_at table row scope id [] = Ok []
 numbers_at table row scope id (counter ∷ counters) = do
   number ← number_at table row scope id counter
@@ -74,7 +75,8 @@ channel_size channel = draining_size channel.draining
 -- from a row on, these units are read, one after the other, with numbers from this one on, up to the row at the end
 abbrev pub AreRead : {A : Type 0} → (ℕ → ℕ → Result A Fault) → (A → ℕ) → ℕ → ℕ → List A → ℕ → Type 0
 AreRead unit_at size row id [] end = end ≡ row
-AreRead unit_at size row id (unit ∷ units) end = (unit_at row id ≡ Ok unit) × AreRead unit_at size (row + size unit) (id + 1) units end
+AreRead unit_at size row id (unit ∷ units) end =
+    (unit_at row id ≡ Ok unit) × AreRead unit_at size (row + size unit) (id + 1) units end
 
 -- a core must follow, after this many: there is at least one
 abbrev pub has_core : ℕ → List (List (List ℕ)) → ℕ → Bool

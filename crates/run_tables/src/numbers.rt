@@ -34,16 +34,10 @@ pub(crate) fn number_in(text: &[u8]) -> Option<u128>
     }
 }
 
-fn is_digit(byte: u8) -> bool
-    ensures { result ≡ is_ascii_digit byte }
-{
-    byte.is_ascii_digit()
-}
-
 fn are_digits(text: &[u8]) -> bool
     ensures { result ≡ list_all is_ascii_digit text.now }
 {
-    text.iter().all(|byte| is_digit(*byte))
+    text.iter().all(|byte| byte.is_ascii_digit())
 }
 
 fn is_number(text: &[u8]) -> bool

@@ -18,7 +18,8 @@ ghost use Rattle.run_tables.specs.Requests.{RequestFits, IsInOrder, RequestsCome
 ghost use Rattle.run_tables.specs.Stats.{StatsFit, StatsComeBack};
 
 /// A table of commands in cycles that do not fall is read as it was written, under each configuration that has its
-/// rows, and so is that of a run. Records that are well-formed under a configuration are the same rows under none.
+/// rows; the table of commands of a run is read as it was written. Records that are well-formed under a configuration
+/// are the same rows under none.
 pub fn commands_are_read_back()
     ensures written { (s : Config) (rows : List IssuedCommand) → All (RowIsOf s) rows
         → IsRising rows → CommandsComeBack s.ranks rows }
@@ -30,15 +31,16 @@ pub fn commands_are_read_back()
         → IsCommandTable (header ∷ others) rows }
 {}
 
-/// A table of statistics in their ranges, of one core and one channel or more, is read as it was written, and so is
-/// that of a run.
+/// A table of statistics in their ranges, of one core and one channel or more, is read as it was written; the table of
+/// statistics of a run is read as it was written.
 pub fn stats_are_read_back()
     ensures written { (stats : RunStats) → StatsFit stats → StatsComeBack stats }
     ensures run { (s : Config) (traces : List (List Entry)) (n : ℕ) → n ≤ 2 ^ 62
         → AreShort traces → StatsComeBack (stats_of s traces (run s traces n)) }
 {}
 
-/// A table of requests in their ranges and in order is read as it was written, and so is that of a run.
+/// A table of requests in their ranges and in order is read as it was written; the table of requests of a run is read
+/// as it was written.
 pub fn requests_are_read_back()
     ensures written { (rows : List RequestTimes) → All RequestFits rows → IsInOrder rows
         → RequestsComeBack rows }

@@ -6,7 +6,7 @@ use crate::outcomes::{Texts, always, outcome_of, plain_outcome};
 use sim_base::fault::{Fault, LineCause};
 use sim_base::key::Key;
 use sim_base::message::Cycle;
-use simulation::gate::Open;
+use simulation::gate::OpenGate;
 use simulation::options::Hooks;
 use simulation::watch::Unwatched;
 use std::alloc::Global;
@@ -38,7 +38,7 @@ fn refused<R: Abort + Threads + Wait + Sync>(
     let texts = Texts::of(rt, alloc, &[case.change], "", traces);
     let run = texts.run(case.cycles).by(always(case.workers));
     let hooks = Hooks {
-        gate: &Open,
+        gate: &OpenGate,
         watch: &mut Unwatched,
     };
     let by_workers = outcome_of(rt, alloc, hooks, &run).err();

@@ -7,7 +7,7 @@ use fixtures::one_read::{CHANNELS, CORES};
 use fixtures::small::SMALL;
 use sim_base::command::Kind;
 use sim_base::fault::Fault;
-use simulation::gate::Open;
+use simulation::gate::OpenGate;
 use simulation::input::InputTexts;
 use simulation::options::{Hooks, RunOptions};
 use simulation::runs::simulate;
@@ -51,7 +51,7 @@ fn workers_with_little_memory(rt: HostRuntime) {
     let texts: [&[u8]; 1] = [b"0 0\n"];
     for workers in [1, 2] {
         let hooks = Hooks {
-            gate: &Open,
+            gate: &OpenGate,
             watch: &mut Unwatched,
         };
         let input = InputTexts {

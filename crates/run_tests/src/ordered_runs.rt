@@ -41,9 +41,9 @@ impl Order for Turned {
 pub(crate) struct Last(pub(crate) usize);
 
 impl Order for Last {
-    ghost use Rattle.std.specs.Prelude.{◌≡◌, All, Any};
+    ghost use Rattle.reference.specs.Orders.{BringsNoneIn};
 
-    ghost may_give = { λ _ results arranged. All (λ d. Any (λ r. r.name ≡ d.name) results → Any (λ r. r ≡ d) results) arranged };
+    ghost may_give = { λ _ results arranged. BringsNoneIn results arranged };
 
     fn arrange(&mut self, _phase: u64, mut results: Vec<Done>) -> Vec<Done> {
         results.reverse();
@@ -87,9 +87,9 @@ fn ends_at(results: &[Done], until: Cycle) -> bool
 struct Brings(Vec<Done>);
 
 impl Order for Brings {
-    ghost use Rattle.std.specs.Prelude.{◌≡◌, All, Any};
+    ghost use Rattle.reference.specs.Orders.{BringsNoneIn};
 
-    ghost may_give = { λ _ results arranged. All (λ d. Any (λ r. r.name ≡ d.name) results → Any (λ r. r ≡ d) results) arranged };
+    ghost may_give = { λ _ results arranged. BringsNoneIn results arranged };
 
     fn arrange(&mut self, _phase: u64, mut results: Vec<Done>) -> Vec<Done> {
         let Some(done) = self.0.pop() else {

@@ -9,7 +9,7 @@ use reports::{write_commands, write_final, write_requests, write_stats};
 use sim_base::command::IssuedCommand;
 use sim_base::fault::Fault;
 use sim_base::message::{Cycle, Message};
-use simulation::gate::{Gate, Open};
+use simulation::gate::{Gate, OpenGate};
 use simulation::input::InputTexts;
 use simulation::options::{Hooks, RunOptions};
 use simulation::runs::simulate;
@@ -216,7 +216,7 @@ pub(crate) fn assert_same<R: Abort + Threads + Wait + Sync>(
     let plain = plain_tables(rt, alloc, run);
     for workers in workers {
         let hooks = Hooks {
-            gate: &Open,
+            gate: &OpenGate,
             watch: &mut Unwatched,
         };
         assert_tables(rt, alloc, hooks, &run.by(*workers), &plain);

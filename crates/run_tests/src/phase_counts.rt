@@ -7,7 +7,7 @@ use crate::shared_out::{LONGEST, run_up_to, started};
 use shards::job::{Done, Job};
 use sim_base::fault::Fault;
 use sim_base::message::Cycle;
-use simulation::gate::Open;
+use simulation::gate::OpenGate;
 use simulation::runner::{Runner, Serial};
 
 /// The cycles of a phase, from one on and before another.
@@ -16,7 +16,7 @@ type Span = (Cycle, Cycle);
 /// Runs the jobs of a phase one after the other, and notes its cycles, as far as there is memory for them.
 #[derive(Drop)]
 struct Noting<'a> {
-    serial: Serial<'a, Open>,
+    serial: Serial<'a, OpenGate>,
     spans: Vec<Span>,
 }
 
@@ -80,7 +80,7 @@ fn a_phase_begins_where_something_happens(rt: HostRuntime) {
         let texts = Texts::of(&rt, alloc, counted.changes, "", &[counted.trace]);
         let sim = started(&rt, alloc, &texts.run(counted.cycles));
         let mut noting = Noting {
-            serial: Serial::new(alloc, &Open),
+            serial: Serial::new(alloc, &OpenGate),
             spans: Vec::new(alloc),
         };
         let sim = run_up_to(sim, alloc, counted.cycles, 2, &mut noting).expect(&rt, "memory");

@@ -10,7 +10,7 @@ use crate::outcomes::{DRAINED, Texts, always, assert_same, auto, did, plain_outc
 use crew::caller::TaskRunner;
 use crew::open::Blank;
 use crew::rule::BoardName;
-use crew::run::{CrewOptions, PhasedRun, Refused, with_crew};
+use crew::run::{CrewFault, CrewOptions, PhasedRun, with_crew};
 use crew::seats::{Board, PutSeat, TakeSeat};
 use crew::signal::WaitLimits;
 use crew::work::{DoneOf, Work};
@@ -223,7 +223,7 @@ fn refused_memory_ends_the_run(rt: HostRuntime) {
             limits: WAIT_LIMITS,
         };
         let whole = with_crew(&rt, rt.alloc(), &Squaring, options, phased);
-        expect_at(&rt, &refused, &whole, &Err(Refused::Memory));
+        expect_at(&rt, &refused, &whole, &Err(CrewFault::Memory));
     }
 }
 

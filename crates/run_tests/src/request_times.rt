@@ -10,7 +10,7 @@ use crate::outcomes::{Texts, always, outcome_of};
 use request_table::table::{RequestTable, Rows};
 use request_table::times::RequestTimes;
 use sim_base::message::{Access, Cycle};
-use simulation::gate::Open;
+use simulation::gate::OpenGate;
 use simulation::options::Hooks;
 use simulation::watch::Unwatched;
 use std::alloc::Global;
@@ -98,7 +98,7 @@ fn assert_requests<R: Abort + Threads + Wait + Sync>(rt: &R, alloc: Global, work
     let texts = Texts::of(rt, alloc, &[], "", &["0 0 64\n0 64\n"]);
     for (cycles, want) in &RUNS {
         let hooks = Hooks {
-            gate: &Open,
+            gate: &OpenGate,
             watch: &mut Unwatched,
         };
         let run = texts.run(*cycles).by(always(workers));

@@ -12,7 +12,7 @@ use fixtures::texts::traces_of;
 use shards::job::{Done, Job};
 use sim_base::fault::Fault;
 use sim_base::message::Cycle;
-use simulation::gate::Open;
+use simulation::gate::OpenGate;
 use simulation::machine::run_with;
 use simulation::runner::{Runner, Serial};
 use std::alloc::Global;
@@ -39,7 +39,7 @@ pub(crate) fn started<R: Abort + Threads + Sync>(rt: &R, alloc: Global, run: &Ru
 /// Runs the jobs of a phase one after the other, and gives their results from the last to the first.
 #[derive(Drop)]
 struct Reversed<'a> {
-    serial: Serial<'a, Open>,
+    serial: Serial<'a, OpenGate>,
 }
 
 impl<'a> Runner for Reversed<'a> {
@@ -78,7 +78,7 @@ fn run_in_shards(
     requires { 0 < shards }
 {
     let mut runner = Reversed {
-        serial: Serial::new(alloc, &Open),
+        serial: Serial::new(alloc, &OpenGate),
     };
     for limit in limits {
         sim = run_up_to(sim, alloc, limit, shards, &mut runner).expect(rt, "memory");

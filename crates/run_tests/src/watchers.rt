@@ -4,7 +4,7 @@ use crate::expect::expect_at;
 use crate::outcomes::{DRAINED, Texts, always, assert_tables, auto, outcome_of, plain_tables};
 use crate::shared_out::TWO_TRACES;
 use sim_base::message::Cycle;
-use simulation::gate::Open;
+use simulation::gate::OpenGate;
 use simulation::options::Hooks;
 use simulation::watch::{Stage, Watch};
 use std::alloc::Global;
@@ -62,7 +62,7 @@ fn assert_watched<R: Abort + Threads + Wait + Sync>(
     for workers in [auto(1), always(3)] {
         let mut watch = Noting::new(alloc, interval);
         let hooks = Hooks {
-            gate: &Open,
+            gate: &OpenGate,
             watch: &mut watch,
         };
         assert_tables(rt, alloc, hooks, &run.by(workers), &plain);
@@ -90,7 +90,7 @@ fn a_watcher_is_told_what_retired(rt: HostRuntime) {
     for (limit, want) in [(20, some.as_slice()), (0, &[])] {
         let mut watch = Noting::new(alloc, 8);
         let hooks = Hooks {
-            gate: &Open,
+            gate: &OpenGate,
             watch: &mut watch,
         };
         outcome_of(&rt, alloc, hooks, &texts.run(limit)).expect(&rt, "a run");

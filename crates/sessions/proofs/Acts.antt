@@ -2,7 +2,8 @@
 use Rattle.std.proofs.Common.{◌≡◌, ℕ, ◌+◌, ◌<◌, ◌≤◌, Bool, true, false, leb, Option, Some, None, refl, subst, arith}
 use Rattle.std.specs.Prelude.{min}
 use Rattle.std.proofs.lemmas.Bool.{leb-true, leb-false}
-use Rattle.sessions.specs.Ahead.{command_then, earlier, IsNextAt, IsNextAct}
+use Rattle.sessions.specs.Ahead.{command_then, IsNextAt, IsNextAct}
+use Rattle.sim_base.specs.Earlier.{earlier}
 use Rattle.sessions.specs.Memories.{Pasts, ActsIn, IsNextActAt, IsNextActOf}
 use Rattle.sessions.proofs.Earliest.{below-more}
 

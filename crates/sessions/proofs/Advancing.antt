@@ -9,14 +9,14 @@ use Rattle.sim_base.specs.declared.config.Config.{Config}
 use Rattle.sim_base.specs.Counts.{queue_length}
 use Rattle.sim_base.specs.History.{issued_commands, channel_messages}
 use Rattle.sim_base.specs.Machine.{channel_run}
-use Rattle.sim_base.specs.Scheduling.{queued_requests}
+use Rattle.sim_base.specs.Scheduling.{queued_requests, queue_room}
 use Rattle.sim_base.specs.declared.command.IssuedCommand.{IssuedCommand}
 use Rattle.sim_base.specs.declared.message.Message.{Message}
 use Rattle.sim_base.specs.declared.message.Request.{Request}
 use Rattle.statistics.proofs.ChannelCounts.{AgreeUpTo-later}
 use Rattle.channel_step.proofs.Fits.{split-differ}
 use Rattle.channel_step.specs.Channels.{StandsFor}
-use Rattle.channel_step.specs.Fit.{queue_room, IsUnnamed, ComeByAge, IsFit}
+use Rattle.channel_step.specs.Fit.{IsUnnamed, ComeByAge, IsFit}
 use Rattle.channel_step.specs.Past.{requests_of, CarriesRequest, IsOther, Differ}
 use Rattle.channel_step.specs.Runs.{CanRun, IsDone}
 use Rattle.channel_step.specs.declared.channel.Channel.{Channel}
@@ -131,14 +131,14 @@ can-run c s channel now firsts sent coming inbox rest until h cut l =
     }
 
 -- What a run leaves: what is kept at its end, and what the channel gave, put behind what it gave before.
-pub record HasGone (d : Channel) (s : Config) (channel now : ℕ) (firsts : List ℕ) (sent rest : List Message) (until : ℕ) (commands : List IssuedCommand) (replies : List Message) : Type 0 where
+pub record HasAdvanced (d : Channel) (s : Config) (channel now : ℕ) (firsts : List ℕ) (sent rest : List Message) (until : ℕ) (commands : List IssuedCommand) (replies : List Message) : Type 0 where
   pub keeps : Keeps d s channel until firsts sent rest
   pub commands_are : issued_commands channel (steps_of s channel sent until) ≡ issued_commands channel (steps_of s channel sent now) ++ commands
   pub replies_are : channel_messages s channel (steps_of s channel sent until) ≡ channel_messages s channel (steps_of s channel sent now) ++ replies
 
 pub has-gone : (c d : Channel) (s : Config) (channel now : ℕ) (firsts : List ℕ) (sent coming inbox rest : List Message) (until : ℕ) (before after : Option (List IssuedCommand)) (replies_before replies_after : List Message)
     → (h : Keeps c s channel now firsts sent coming) → IsCut coming inbox rest until → now ≤ until → until ≤ 2 ^ 62
-    → (done : IsDone d s channel (steps_of s channel sent now) h.mail inbox now until before after replies_before replies_after) → HasGone d s channel now firsts sent rest until done.issued done.sent
+    → (done : IsDone d s channel (steps_of s channel sent now) h.mail inbox now until before after replies_before replies_after) → HasAdvanced d s channel now firsts sent rest until done.issued done.sent
 has-gone c d s channel now firsts sent coming inbox rest until before after replies_before replies_after h cut l e done =
     let k : Cut c s channel now firsts sent coming inbox rest until = record { h = h; cut = cut; span = l } in
     let steps = steps_of s channel sent now in

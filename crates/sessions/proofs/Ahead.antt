@@ -17,7 +17,8 @@ use Rattle.statistics.proofs.ChannelCounts.{AgreeUpTo-later}
 use Rattle.channel_step.specs.Fit.{ComeByAge}
 use Rattle.channel_step.proofs.Requests.{carries-stamped}
 use Rattle.channel_step.specs.FrFcfs.Cycles.{IsFirstCycle, IsFirst}
-use Rattle.sessions.specs.Ahead.{command_then, first_arrival, earlier, IsNextAt, IsNextAct}
+use Rattle.sessions.specs.Ahead.{command_then, first_arrival, IsNextAt, IsNextAct}
+use Rattle.sim_base.specs.Earlier.{earlier}
 use Rattle.sessions.specs.Keeps.{steps_of}
 use Rattle.sessions.specs.Sessions.{Past, IsSession}
 use Rattle.sessions.specs.declared.channel_session.session.Session.{Session}

@@ -1,5 +1,5 @@
 -- What a session answers, by what it keeps.
-use Rattle.std.proofs.Common.{◌≡◌, ℕ, ◌+◌, ◌≤◌, Bool, true, false, cond, List, [], ◌∷◌, ◌++◌, length, take, drop, Option, Some, None, refl, sym, ap, ap₂, subst, ◌∙◌, arith}
+use Rattle.std.proofs.Common.{◌≡◌, ℕ, ◌+◌, ◌≤◌, List, [], ◌∷◌, ◌++◌, length, take, drop, Option, Some, None, refl, sym, ap, ap₂, subst, ◌∙◌, arith}
 use Rattle.std.specs.Prelude.{take_while, nat_lt, option_to_list, slice_get, Result, Ok, Err, IfErr, IfSome, OnOk, OnErr}
 use Rattle.std.proofs.lemmas.Bool.{and_parts, ltb-false, leb-true, leb-false, eqb-true, not-false}
 use Rattle.std.proofs.lemmas.List.{append_assoc, length-append, take-append-drop, drop-append-le}
@@ -12,6 +12,7 @@ use Rattle.sim_base.specs.Scheduling.{queued_requests}
 use Rattle.sim_base.specs.declared.command.IssuedCommand.{IssuedCommand}
 use Rattle.sim_base.specs.declared.message.Message.{Message}
 use Rattle.sim_base.proofs.Each.{Each-last}
+use Rattle.sim_base.proofs.Lists.{cond-none}
 use Rattle.statistics.specs.Channels.{channel_stats}
 use Rattle.statistics.proofs.ChannelCounts.{channel_stats-later}
 use Rattle.channel_step.specs.Channels.{StandsFor}
@@ -29,7 +30,7 @@ use Rattle.sessions.specs.declared.channel_session.held.HeldCommands.{HeldComman
 use Rattle.sessions.specs.declared.channel_session.held.HeldReplies.{HeldReplies}
 use Rattle.sessions.specs.declared.channel_session.requests.SentRequest.{SentRequest}
 use Rattle.sessions.specs.declared.channel_session.session.Session.{Session}
-use Rattle.sessions.proofs.Advancing.{IsCut, HasGone, keeps-at, waits-arrived}
+use Rattle.sessions.proofs.Advancing.{IsCut, HasAdvanced, keeps-at, waits-arrived}
 use Rattle.sessions.proofs.Lists.{due, due-early, due-late}
 use Rattle.sessions.proofs.Sending.{MaySend, steps-late, sent-stamped, keeps-first, keeps-sent}
 
@@ -54,20 +55,16 @@ waits-are session p h waits e =
     ∙ ap (λ t. length (queued_requests (issued_commands p.channel steps) h.keeps.mail t)) (keeps-at p.config p.channel session.cycle p.sent)
     ∙ sym (waits-arrived session.channel p.config p.channel session.cycle session.firsts.items p.sent session.coming.items h.keeps)
 
-passed : (b : Bool) (fault : SessionFault) (o : Option SessionFault) → cond b (Some fault) o ≡ None → (b ≡ false) × (o ≡ None)
-passed true fault o e = absurd (cc)
-passed false fault o e = (refl, e)
-
 -- a request that is not refused may be sent
 may-send : (session : Session) (waits : ℕ) (r : SentRequest) → refusal session waits r ≡ None
     → MaySend session.config session.number session.cycle session.firsts.items waits session.coming.items r
 may-send session waits r e =
-    let a = passed _ _ _ e in
-    let b = passed _ _ _ a.1 in
-    let c = passed _ _ _ b.1 in
-    let d = passed _ _ _ c.1 in
-    let f = passed _ _ _ d.1 in
-    let g = passed _ _ _ f.1 in
+    let a = cond-none _ _ _ e in
+    let b = cond-none _ _ _ a.1 in
+    let c = cond-none _ _ _ b.1 in
+    let d = cond-none _ _ _ c.1 in
+    let f = cond-none _ _ _ d.1 in
+    let g = cond-none _ _ _ f.1 in
     let unasked = and_parts _ _ (and_parts _ _ (not-false _ f.0)).0 in
     record {
       core = leb-false _ _ a.0;
@@ -155,7 +152,7 @@ pub record Ran (a b : Session) (until : ℕ) (rest : List Message) (commands : L
   pub has_replies : HasReplies b.replies
 
 pub ran-session : (a b : Session) (p : Past) (until : ℕ) (rest : List Message) (commands : List IssuedCommand) (replies : List Message) → IsSession a p → Ran a b until rest commands replies
-    → HasGone b.channel p.config p.channel a.cycle a.firsts.items p.sent rest until commands replies → IsSession b p
+    → HasAdvanced b.channel p.config p.channel a.cycle a.firsts.items p.sent rest until commands replies → IsSession b p
 ran-session a b p until rest commands replies h r g =
     record {
       config_is = r.config_is ∙ h.config_is;

@@ -3,6 +3,7 @@ use Rattle.std.proofs.Common.{◌≡◌, ℕ, ◌+◌, ◌<◌, ◌≤◌, Bool,
 use Rattle.std.specs.Prelude.{IfSome, if◌then◌else◌}
 use Rattle.std.proofs.lemmas.Bool.{ltb-true, ltb-false, eqb-true, eqb-false}
 use Rattle.sessions.specs.Earliest.{earlier_numbered, IsEarliestAt, IsEarliest}
+use Rattle.std.proofs.lemmas.Option.{IfSome_then}
 
 -- a number below one more is below, or is that one
 pub below-more : (P : ℕ → Type 0) (n : ℕ) → ((k : ℕ) → k < n → P k) → P n → (k : ℕ) → k < n + 1 → P k
@@ -21,10 +22,6 @@ if-none P o e = subst (λ (x : Option ℕ). IfSome x P) (sym e) tt
 if-some : (P : ℕ → Type 0) (o : Option ℕ) (c : ℕ) → o ≡ Some c → P c → IfSome o P
 if-some P o c e h = subst (λ (x : Option ℕ). IfSome x P) (sym e) h
 
-weaker : (P Q : ℕ → Type 0) → ((c : ℕ) → P c → Q c) → (o : Option ℕ) → IfSome o P → IfSome o Q
-weaker P Q f None h = tt
-weaker P Q f (Some c) h = f c h
-
 -- where the first of those before stays the first
 stays : (cycles : ℕ → Option ℕ) (n number cycle : ℕ) → IsEarliestAt cycles n number cycle → IfSome (cycles n) (λ c. cycle ≤ c) → IsEarliestAt cycles (n + 1) number cycle
 stays cycles n number cycle h last =
@@ -41,7 +38,7 @@ leads cycles n cycle e h =
     record {
       is_below = omega arith;
       cycle_is = e;
-      none_earlier = below-more (λ k. IfSome (cycles k) (λ c. cycle ≤ c)) n (λ k l. weaker (λ c. cycle < c) (λ c. cycle ≤ c) (λ c b. omega arith) (cycles k) (h k l)) (if-some (λ c. cycle ≤ c) (cycles n) cycle e (omega arith));
+      none_earlier = below-more (λ k. IfSome (cycles k) (λ c. cycle ≤ c)) n (λ k l. IfSome_then (cycles k) {P = λ c. cycle < c} {Q = λ c. cycle ≤ c} (h k l) (λ c b. omega arith)) (if-some (λ c. cycle ≤ c) (cycles n) cycle e (omega arith));
       none_lower = h;
     }
 
@@ -55,5 +52,5 @@ earliest-more cycles n (Some first) (Some cycle) h e = by (ltb cycle first.0) re
     by : (b : Bool) → ltb cycle first.0 ≡ b → IsEarliest cycles (n + 1) (if b then Some (cycle, n) else Some first)
     by true is =
         let earlier : cycle < first.0 = ltb-true _ _ is in
-        leads cycles n cycle e (λ k l. weaker (λ c. first.0 ≤ c) (λ c. cycle < c) (λ c b. omega arith) (cycles k) (h.none_earlier k l))
+        leads cycles n cycle e (λ k l. IfSome_then (cycles k) {P = λ c. first.0 ≤ c} {Q = λ c. cycle < c} (h.none_earlier k l) (λ c b. omega arith))
     by false is = stays cycles n first.1 first.0 h (if-some (λ c. first.0 ≤ c) (cycles n) cycle e (ltb-false _ _ is))

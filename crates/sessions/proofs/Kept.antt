@@ -8,6 +8,7 @@ use Rattle.std.proofs.lemmas.List.{append-nil, take_all, get_or_default, get_or-
 use Rattle.sim_base.specs.declared.config.Config.{Config}
 use Rattle.sim_base.specs.declared.command.IssuedCommand.{IssuedCommand}
 use Rattle.sim_base.specs.declared.message.Message.{Message}
+use Rattle.sim_base.proofs.Lists.{cond-none}
 use Rattle.sessions.specs.Sessions.{Past, IsSession, waiting_of, with_request, with_command, with_reply, refusal, end_refusal, IsAnswer}
 use Rattle.sessions.specs.declared.channel_session.fault.SessionFault.{SessionFault}
 use Rattle.sessions.specs.declared.channel_session.requests.SentRequest.{SentRequest}
@@ -95,16 +96,12 @@ left-at A m pasts number some a new (Err e) l is h stays left =
     let c = channel-at m pasts number some a h l is in
     memory-left m pasts number new h l (record { is_session = left (pasts.past number) c.is_session; cycle_is = stays ∙ c.cycle_is; config_is = c.config_is; number_is = c.number_is })
 
-passed : (b : Bool) (fault : SessionFault) (o : Option SessionFault) → (if b then Some fault else o) ≡ None → (b ≡ false) × (o ≡ None)
-passed true fault o e = absurd (cc)
-passed false fault o e = (refl, e)
-
 -- each channel may run up to a cycle that is not refused
 pub may-run : (m : MemorySession) (until : ℕ) → IsOpenMemory m → end_refusal m.cycle until ≡ None → (k : ℕ) (other : Session) → k < length m.sessions.items → MayRun until (get_or m.sessions.items k other)
 may-run m until h e k other l =
     let c = h.is_memory.each k other l in
-    let first = passed _ _ _ e in
-    let second = passed _ _ _ first.1 in
+    let first = cond-none _ _ _ e in
+    let second = cond-none _ _ _ first.1 in
     record {
       is_open = record { past = h.pasts.past k; is_session = c.is_session };
       span = let at = c.cycle_is in let early : m.cycle ≤ until = ltb-false _ _ first.0 in omega arith;

@@ -6,7 +6,7 @@ use Rattle.sim_base.proofs.Each.{Each-append, Each-filter, Each-turned}
 use Rattle.sim_base.proofs.Ordered.{Each-weaker}
 use Rattle.sim_base.specs.declared.config.Config.{Config}
 use Rattle.sim_base.specs.Counts.{source_in}
-use Rattle.sim_base.specs.History.{issued_commands}
+use Rattle.sim_base.specs.History.{issued_commands, issued_now}
 use Rattle.sim_base.specs.Machine.{channel_run}
 use Rattle.sim_base.specs.Scheduling.{is_source, source_of, is_queued, queued_requests, queue_in, drains, choice}
 use Rattle.sim_base.specs.declared.command.Command.{Command}
@@ -14,7 +14,7 @@ use Rattle.sim_base.specs.declared.command.IssuedCommand.{IssuedCommand}
 use Rattle.sim_base.specs.declared.command.Source.{Source}
 use Rattle.sim_base.specs.declared.message.Message.{Message}
 use Rattle.sim_base.specs.declared.message.Request.{Request}
-use Rattle.statistics.proofs.ChannelCounts.{issued_now, issued_commands-push}
+use Rattle.statistics.proofs.ChannelCounts.{issued_commands-push}
 use Rattle.channel_step.specs.Fit.{is_of, is_named_by, IsUnnamed}
 use Rattle.channel_step.specs.Past.{requests_of, IsOther}
 use Rattle.channel_step.proofs.Chosen.{chosen-named}

@@ -11,12 +11,11 @@ use Rattle.sim_base.specs.declared.config.Config.{Config}
 use Rattle.sim_base.specs.History.{issued_commands, is_before}
 use Rattle.sim_base.specs.Machine.{channel_run}
 use Rattle.sim_base.specs.Places.{place_of}
-use Rattle.sim_base.specs.Scheduling.{queued_requests}
+use Rattle.sim_base.specs.Scheduling.{queued_requests, queue_room}
 use Rattle.sim_base.specs.declared.message.Message.{Message}
 use Rattle.sim_base.specs.declared.message.Request.{Request}
 use Rattle.statistics.proofs.ChannelCounts.{AgreeUpTo-later}
 use Rattle.channel_step.specs.Channels.{StandsFor}
-use Rattle.channel_step.specs.Fit.{queue_room}
 use Rattle.channel_step.specs.Past.{requests_of, CarriesRequest, IsOther, Differ}
 use Rattle.channel_step.specs.declared.channel.Channel.{Channel}
 use Rattle.channel_step.proofs.Requests.{carries-stamped, requests-append}

@@ -13,7 +13,7 @@ use Rattle.sim_base.proofs.Ordered.{Each-weaker}
 use Rattle.sim_base.proofs.Same.{Stamped}
 use Rattle.sim_base.specs.declared.config.Config.{Config}
 use Rattle.sim_base.specs.Counts.{queue_length}
-use Rattle.sim_base.specs.History.{issued_commands}
+use Rattle.sim_base.specs.History.{issued_commands, issued_now}
 use Rattle.sim_base.specs.Machine.{channel_run}
 use Rattle.sim_base.specs.Scheduling.{request_in, serves, is_served, is_queued, queued_requests, queue_in, choice}
 use Rattle.sim_base.specs.declared.command.Command.{Command}
@@ -21,7 +21,6 @@ use Rattle.sim_base.specs.declared.command.IssuedCommand.{IssuedCommand}
 use Rattle.sim_base.specs.declared.message.Message.{Message}
 use Rattle.sim_base.specs.declared.message.Request.{Request}
 use Rattle.sim_base.proofs.Lists.{length-filter-le}
-use Rattle.statistics.proofs.ChannelCounts.{issued_now}
 use Rattle.channel_step.specs.Past.{requests_of}
 use Rattle.channel_step.proofs.Requests.{requests-append, ArrivedBefore}
 use Rattle.channel_step.proofs.Spans.{length-channel_run, issued-after}

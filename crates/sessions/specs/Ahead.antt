@@ -1,9 +1,9 @@
 -- When a channel acts next, if nothing more is sent to it.
 --     command_then p now cycle      what it would issue in a cycle, where it issues nothing from now on and before that
 --     arrives_then p cycle      whether a request that was sent arrives in a cycle
---     first_arrival coming, earlier one other      when the first of some messages arrives, and the earlier of two cycles, if there are any
+--     first_arrival coming      when the first of some messages arrives, if there are any
 --     IsNextAct p now next      the next cycle in which it issues a command or a request arrives, if there is one
-use Rattle.std.specs.Prelude.{◌≡◌, ◌⊎◌, ℕ, ◌-◌, ◌<◌, ◌≤◌, ◌==◌, Bool, true, ◌++◌, replicate, min, is_some, List, [], ◌∷◌, Option, Some, None}
+use Rattle.std.specs.Prelude.{◌≡◌, ◌⊎◌, ℕ, ◌-◌, ◌<◌, ◌≤◌, ◌==◌, Bool, true, ◌++◌, replicate, is_some, List, [], ◌∷◌, Option, Some, None}
 use Rattle.std.specs.List.{list_any}
 use Rattle.sim_base.specs.Scheduling.{choice}
 use Rattle.sim_base.specs.declared.command.Command.{Command}
@@ -14,7 +14,8 @@ use Rattle.sessions.specs.Sessions.{Past}
 -- what the definition's channel issues in a cycle for all that was sent, where it issues nothing from now on and before
 -- that
 abbrev pub command_then : Past → ℕ → ℕ → Option Command
-command_then p now cycle = choice p.config p.channel (steps_of p.config p.channel p.sent now ++ replicate (cycle - now) None) p.sent
+command_then p now cycle =
+    choice p.config p.channel (steps_of p.config p.channel p.sent now ++ replicate (cycle - now) None) p.sent
 
 -- whether a request that was sent arrives in a cycle
 abbrev pub arrives_then : Past → ℕ → Bool
@@ -24,12 +25,6 @@ arrives_then p cycle = list_any (λ (m : Message). m.arrival == cycle) p.sent
 abbrev pub first_arrival : List Message → Option ℕ
 first_arrival [] = None
 first_arrival (m ∷ ms) = Some m.arrival
-
--- the earlier of two cycles, each of which there may be
-abbrev pub earlier : Option ℕ → Option ℕ → Option ℕ
-earlier (Some one) (Some other) = Some (min one other)
-earlier (Some one) None = Some one
-earlier None other = other
 
 -- A channel acts in a cycle, and in none from now on and before that, if nothing more is sent to it: it issues nothing
 -- before that cycle; and in it, it issues a command, or a request that was sent arrives.

@@ -6,12 +6,12 @@ use Rattle.std.specs.Prelude.{◌≡◌, ℕ, ◌+◌, ◌≤◌, ◌^◌, List,
 use Rattle.std.specs.List.{AllByRecursion as Each}
 use Rattle.sim_base.specs.History.{issued_commands}
 use Rattle.sim_base.specs.Machine.{channel_run}
-use Rattle.sim_base.specs.Scheduling.{queued_requests}
+use Rattle.sim_base.specs.Scheduling.{queued_requests, queue_room}
 use Rattle.sim_base.specs.declared.config.Config.{Config}
 use Rattle.sim_base.specs.declared.command.Command.{Command}
 use Rattle.sim_base.specs.declared.message.Message.{Message}
 use Rattle.channel_step.specs.Channels.{StandsFor}
-use Rattle.channel_step.specs.Fit.{queue_room, ComeByAge}
+use Rattle.channel_step.specs.Fit.{ComeByAge}
 use Rattle.channel_step.specs.Past.{requests_of, CarriesRequest, Differ}
 use Rattle.channel_step.specs.declared.channel.Channel.{Channel}
 use Rattle.sessions.specs.Sent.{IsAsked}

@@ -122,7 +122,8 @@ IsFirstReply memory pasts first = IsEarliest (reply_arrivals pasts memory.cycle)
 
 -- the next command of a channel that was not taken, with the channel's number
 abbrev pub command_from : Pasts → ℕ → ℕ → Option (ℕ × IssuedCommand)
-command_from pasts now number = option_map (λ (command : IssuedCommand). (number, command)) (next_command_of (pasts.past number) now)
+command_from pasts now number =
+    option_map (λ (command : IssuedCommand). (number, command)) (next_command_of (pasts.past number) now)
 
 -- the next reply of a channel that was not taken, with the channel's number
 abbrev pub reply_from : Pasts → ℕ → ℕ → Option (ℕ × Message)
@@ -161,7 +162,8 @@ IsNextReply channels pasts now None = (k : ℕ) → k < channels → next_reply_
 pub record ActsIn (channels : ℕ) (pasts : Pasts) (now cycle : ℕ) : Type 0 where
   pub number : ℕ
   pub is_below : number < channels
-  pub acts : (is_some (command_then (pasts.past number) now cycle) ≡ true) ⊎ (arrives_then (pasts.past number) cycle ≡ true)
+  pub acts : (is_some (command_then (pasts.past number) now cycle) ≡ true)
+      ⊎ (arrives_then (pasts.past number) cycle ≡ true)
 
 -- A channel acts in a cycle, and none from now on and before that, if nothing more is sent: none issues a command
 -- before that cycle, and in it, one does or a request that was sent arrives.
@@ -188,7 +190,8 @@ pub record MayRun (until : ℕ) (session : Session) : Type 0 where
 
 -- each of several sessions may run up to a cycle
 abbrev pub EachMayRun : ℕ → List Session → Type 0
-EachMayRun until sessions = (k : ℕ) (other : Session) → k < length sessions → MayRun until (slice_index_or sessions k other)
+EachMayRun until sessions =
+    (k : ℕ) (other : Session) → k < length sessions → MayRun until (slice_index_or sessions k other)
 
 -- a session has run up to a cycle
 pub record HasRunTo (until : ℕ) (old new : Session) : Type 0 where
@@ -198,4 +201,5 @@ pub record HasRunTo (until : ℕ) (old new : Session) : Type 0 where
 -- each of several sessions has
 abbrev pub EachHasRun : ℕ → List Session → List Session → Type 0
 EachHasRun until old new =
-    (k : ℕ) (other : Session) → k < length old → HasRunTo until (slice_index_or old k other) (slice_index_or new k other)
+    (k : ℕ) (other : Session) → k < length old
+    → HasRunTo until (slice_index_or old k other) (slice_index_or new k other)

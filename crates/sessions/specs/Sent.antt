@@ -34,7 +34,8 @@ message_of s channel sent =
 
 -- an entry of a core may be asked for: neither it nor a later one was, and it is not the last number there is
 abbrev pub is_unasked : List ℕ → ℕ → ℕ → Bool
-is_unasked firsts core entry = nat_lt core (length firsts) && nat_le (slice_index_or firsts core 0) entry && nat_lt entry (2 ^ 64 - 1)
+is_unasked firsts core entry =
+    nat_lt core (length firsts) && nat_le (slice_index_or firsts core 0) entry && nat_lt entry (2 ^ 64 - 1)
 
 -- it was asked for, and so only later ones may be
 abbrev pub firsts_with : List ℕ → ℕ → ℕ → List ℕ

@@ -22,7 +22,7 @@ use Rattle.sim_base.specs.declared.command.IssuedCommand.{IssuedCommand}
 use Rattle.sim_base.specs.declared.message.Message.{Message}
 use Rattle.statistics.specs.Channels.{channel_stats}
 use Rattle.statistics.specs.declared.channels.ChannelStats.{ChannelStats}
-use Rattle.channel_step.specs.Fit.{queue_room}
+use Rattle.sim_base.specs.Scheduling.{queue_room}
 use Rattle.sessions.specs.Sent.{message_of, is_unasked, firsts_with}
 use Rattle.sessions.specs.Held.{commands_left, replies_left, HasCommands, HasReplies}
 use Rattle.sessions.specs.Keeps.{steps_of, waiting, Keeps}
@@ -122,7 +122,8 @@ refusal session waits r =
     if nat_le session.config.cores r.core then Some NoSuchCore
     else if not ((place_of session.config r.address).channel == session.number) then Some OtherChannel
     else if nat_lt r.arrival session.cycle then Some InThePast
-    else if not (list_all (λ n. is_before n (message_of session.config session.number r)) session.coming.items) then Some OutOfOrder
+    else
+    if not (list_all (λ n. is_before n (message_of session.config session.number r)) session.coming.items) then Some OutOfOrder
     else if not (is_unasked session.firsts.items r.core r.entry) then Some EntryPassed
     else if nat_le (queue_room session.config) (waits + length session.coming.items) then Some NoCredit
     else None

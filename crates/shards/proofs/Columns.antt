@@ -9,7 +9,7 @@ use Rattle.std.proofs.Math.ListN.{get_or-append}
 use Rattle.sim_base.specs.declared.config.Config.{Config}
 use Rattle.sim_base.specs.declared.message.Message.{Message}
 use Rattle.units.specs.Flight.{among, goes_among}
-use Rattle.shards.specs.Lists.{SameOtherColumns, SameWidths}
+use Rattle.shards.specs.Lists.{SameOtherLists, SameWidths}
 
 module _ {X : Type 0} where
   -- what holds of the item that is changed, and of the others
@@ -38,10 +38,10 @@ widths-set first rows n row new l width same i d =
     ∙ same i d)
     (λ e. same i d)
 
--- and the other lists that it keeps
+-- rows of which one is changed keep the lists at other indices
 pub others-set : (index : ℕ) (first rows : List (Vec (Vec Message Global) Global)) (n : ℕ) (row new : Vec (Vec Message Global) Global) → n < length rows
     → ((j : ℕ) (f : Vec Message Global) → j ≢ index → get_or new.items j f ≡ get_or (get_or rows n row).items j f)
-    → SameOtherColumns index first rows → SameOtherColumns index first (set rows n new)
+    → SameOtherLists index first rows → SameOtherLists index first (set rows n new)
 others-set index first rows n row new l kept same i j d f other =
     at_set (λ v. get_or v.items j f ≡ get_or (get_or first i d).items j f) rows n i new d l
     (λ e. kept j f other

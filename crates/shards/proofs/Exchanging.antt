@@ -13,9 +13,8 @@ use Rattle.sim_base.specs.declared.config.Config.{Config}
 use Rattle.sim_base.specs.declared.message.Message.{Message}
 use Rattle.sim_base.specs.declared.message.Unit.{Unit as MachineUnit}
 use Rattle.sim_base.specs.declared.message.Unit.TheVariants.{Core, Channel}
-use Rattle.sim_base.specs.History.{is_unit, insert_by_age}
+use Rattle.sim_base.specs.History.{is_unit, insert_by_age, receiver_of}
 use Rattle.sim_base.proofs.Grows.{is_unit-own}
-use Rattle.links.specs.InFlight.{receiver_of}
 use Rattle.units.specs.Flight.{is_at_places, goes_among}
 use Rattle.shards.specs.Lists.{bound, lists_of}
 use Rattle.shards.specs.Shards.{IsSplit}
@@ -50,7 +49,7 @@ goes-here s bounds i place m is since before =
     ∙ at-places s (bound bounds i) (bound bounds (suc i)) place
     ∙ there (bound bounds i) (bound bounds (suc i)) place since before
 
--- and to no other
+-- a message goes to no shard but the one that has the place of its receiver
 pub goes-elsewhere : (s : Config) (bounds : List ℕ) → IsSplit s bounds → (i k place : ℕ) (m : Message) → unit_at s place ≡ receiver_of s.channels m.link
     → suc i < length bounds → suc k < length bounds → bound bounds i ≤ place → place < bound bounds (suc i) → k ≢ i
     → goes_among s (bound bounds k) (bound bounds (suc k)) m ≡ false

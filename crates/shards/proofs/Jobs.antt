@@ -15,18 +15,19 @@ use Rattle.sim_base.proofs.Each.{Each-filter, Each-flat_map_below}
 use Rattle.links.specs.InFlight.{InFlight}
 use Rattle.units.specs.Flight.{among, fresh, goes_among, sent_by}
 use Rattle.shards.specs.Lists.{AreSortedByShard, bound, lists_of}
-use Rattle.shards.specs.Shards.{HasGone, IsUpTo, sent_of_shard}
+use Rattle.shards.specs.Shards.{HasShardRun, IsUpTo, sent_of_shard}
 use Rattle.shards.specs.Jobs.{IsJob, IsDone}
 use Rattle.units.specs.Units.{unit_at, unit_count}
-use Rattle.units.specs.Wakes.{AreLowered, HaveGone, IsAsleep, WaitAll, sent_in, sleeper_at}
+use Rattle.units.specs.Wakes.{AreLowered, HaveRun, IsAsleep, WaitAll, sent_in, sleeper_at}
 use Rattle.units.specs.declared.machine.Machine.{Machine}
 use Rattle.shards.specs.declared.shard.Shard.{Shard}
 use Rattle.units.specs.declared.timed_unit.TimedUnit.{TimedUnit}
 use Rattle.shards.specs.declared.job.JobName.{JobName}
 use Rattle.units.proofs.Joining.{fresh-late}
-use Rattle.units.proofs.Jumping.{some-unit, still-waits}
+use Rattle.units.proofs.Jumping.{still-waits}
 use Rattle.units.proofs.Lowering.{lowered-wait_all}
 use Rattle.units.proofs.Sharing.{among-joins}
+use Rattle.sim_base.proofs.Lists.{some-of}
 
 -- what was sent to the units of a shard arrives no sooner than what was sent to all
 pub inbound-later : (machine : Machine) (bounds : List ℕ) (index now : ℕ) (shard : Shard) (inbound : List (Vec Message Global)) → IsUpTo machine bounds index now shard inbound
@@ -48,32 +49,32 @@ taken-up machine bounds index now shard inbound words links h low e =
     let past = first + length units in
     record {
       early = h.early;
-      within = h.gone.within;
-      words_count = low.count ∙ h.gone.words_count;
+      within = h.has_run.within;
+      words_count = low.count ∙ h.has_run.words_count;
       wait = λ k d less. still-waits machine (unit_at machine.config (first + k)) h.last now (sleeper_at units words k d) (before k d less) h.still h.since (later k less);
       flight = e
-          ∙ ap {A = InFlight} {B = InFlight} (λ l. record l { messages = fold insert_by_age l.messages (lists_of inbound) }) h.gone.flight
+          ∙ ap {A = InFlight} {B = InFlight} (λ l. record l { messages = fold insert_by_age l.messages (lists_of inbound) }) h.has_run.flight
           ∙ ap {B = InFlight} (λ ms. record { channels = machine.config.channels; messages = ms })
           (ap (fold insert_by_age _) h.inbound_are ∙ among-joins machine first past h.began h.last h.order h.travels ∙ ap (among machine.config first past) (sym h.still.flight));
     }
   where
     before : WaitAll machine shard.range.first h.last h.last shard.range.units.items words
-    before = lowered-wait_all machine shard.range.first h.began h.last shard.range.units.items shard.range.words.items words (lists_of inbound) h.order h.travels h.gone.words_count h.gone.between h.inbound_are low
+    before = lowered-wait_all machine shard.range.first h.began h.last shard.range.units.items shard.range.words.items words (lists_of inbound) h.order h.travels h.has_run.words_count h.has_run.between h.inbound_are low
 
     later : (k : ℕ) → k < length shard.range.units.items → now ≤ get_or words k 0
     later k less =
-        let i : k < length shard.range.words.items = omega (arith, less, h.gone.words_count) in
+        let i : k < length shard.range.words.items = omega (arith, less, h.has_run.words_count) in
         low.since now (inbound-later machine bounds index now shard inbound h) k i (h.sleep k 0 i)
 
 -- a shard that has gone over its part of a phase
 pub job-ends : (machine : Machine) (bounds : List ℕ) (name : JobName) (wake : ℕ) (before after : Shard) (inbound lists : List (Vec Message Global)) → IsJob machine bounds name before inbound
     → after.machine ≡ before.machine → after.bounds ≡ before.bounds → after.range.first ≡ before.range.first → length after.range.units.items ≡ length before.range.units.items
-    → HasGone machine name.from name.until after
+    → HasShardRun machine name.from name.until after
     → after.traffic.lists.sent.items ≡ sent_by machine name.from name.until before.range.first (length before.range.units.items)
     → name.until ≤ wake → All (λ word. wake ≤ word) after.range.words.items → All (λ m. wake ≤ m.arrival) after.traffic.lists.sent.items → length lists ≡ length inbound
     → AreSortedByShard machine.config bounds after.traffic.lists.sent.items lists
     → IsDone machine bounds name wake after lists
-job-ends machine bounds name wake before after inbound lists h shared same first count gone sent since sleep arrivals many each =
+job-ends machine bounds name wake before after inbound lists h shared same first count has_run sent since sleep arrivals many each =
     let is = h.before.is in
     let sends : after.traffic.lists.sent.items ≡ sent_of_shard machine name.from name.until after =
     sent ∙ ap₂ (sent_by machine name.from name.until) (sym first) (sym count) in
@@ -87,7 +88,7 @@ job-ends machine bounds name wake before after inbound lists h shared same first
           first_is = first ∙ is.first_is;
           past_is = ap₂ (λ a b. a + b) first count ∙ is.past_is;
         };
-        gone = gone;
+        has_run = has_run;
         since = since;
         sleep = sleep;
         arrivals = subst (All (λ (m : Message). wake ≤ m.arrival)) sends arrivals;
@@ -102,13 +103,13 @@ job-ends machine bounds name wake before after inbound lists h shared same first
     }
 
 -- at the end of a phase no word is sooner
-pub gone-words : (machine : Machine) (first now until : ℕ) (units : List TimedUnit) (words : List ℕ) (links : InFlight) → HaveGone machine first now until units words links → All (λ w. until ≤ w) words
-gone-words machine first now until units words links h k d less =
+pub has_run-words : (machine : Machine) (first now until : ℕ) (units : List TimedUnit) (words : List ℕ) (links : InFlight) → HaveRun machine first now until units words links → All (λ w. until ≤ w) words
+has_run-words machine first now until units words links h k d less =
     let i : k < length units = omega (arith, less, h.words_count) in
     let e : get_or words k 0 ≡ get_or words k d = get_or_default words k 0 d less in
-    subst (λ w. until ≤ w) e (h.between k (some-unit units (omega (arith, i))) i).ahead
+    subst (λ w. until ≤ w) e (h.between k (some-of units (omega (arith, i))) i).ahead
 
--- nor does what some units send in it arrive sooner
+-- what some units send in a phase does not arrive before its end
 pub part-late : (machine : Machine) (now until first count : ℕ) → first + count ≤ unit_count machine.config → now ≤ until → TravelsFor machine.config (until - now) → All (λ m. until ≤ m.arrival) (sent_by machine now until first count)
 part-late machine now until first count within l t =
     All-from_recursion (λ (m : Message). until ≤ m.arrival) (sent_by machine now until first count)

@@ -4,7 +4,7 @@ pub mod Exchanging
 pub mod Splitting
 pub mod Placing
 pub mod Whole
-pub mod Unloading
+pub mod TakingApart
 pub mod Phases
 pub mod Setting
 pub mod Columns

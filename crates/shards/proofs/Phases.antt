@@ -16,7 +16,7 @@ use Rattle.sim_base.specs.Locality.{TravelsFor}
 use Rattle.sim_base.proofs.Below.{flat_map_below_more}
 use Rattle.sim_base.proofs.Each.{Each-flat_map_below}
 use Rattle.sim_base.proofs.Ordered.{Each-weaker}
-use Rattle.sim_base.proofs.Lists.{filter-each}
+use Rattle.sim_base.proofs.Lists.{filter-each, some-of}
 use Rattle.links.specs.InFlight.{InFlight}
 use Rattle.units.specs.declared.machine.Machine.{Machine}
 use Rattle.units.specs.Runs.{flight_at}
@@ -24,22 +24,18 @@ use Rattle.units.specs.Flight.{fresh, among, goes_among, sent_by}
 use Rattle.shards.specs.Lists.{lists_of, bound, IsSquare, AreTurned}
 use Rattle.shards.specs.Shards.{IsSplit, IsShard, IsAtRest, IsUpTo, IsSharded, AreFor, AreShards, sent_of_shard}
 use Rattle.shards.specs.Jobs.{job_at, jobs_at}
-use Rattle.shards.specs.Phases.{PhaseView, IsPhase, AreUnloaded}
-use Rattle.units.specs.Parts.{late}
+use Rattle.shards.specs.Phases.{PhaseView, IsPhase, AreTakenApart}
+use Rattle.links.specs.Rings.{later_of}
 use Rattle.units.specs.Units.{unit_at, unit_count}
-use Rattle.units.specs.Wakes.{Sleeper, HaveGone, IsAsleep, IsStill, Waits, sent_in, sleeper_at}
+use Rattle.units.specs.Wakes.{Sleeper, HaveRun, IsAsleep, IsStill, Waits, sent_in, sleeper_at}
 use Rattle.shards.specs.declared.shard.Shard.{Shard}
 use Rattle.units.specs.declared.timed_unit.TimedUnit.{TimedUnit}
 use Rattle.units.proofs.Joining.{flat-split}
 use Rattle.units.proofs.Due.{flight-each}
-use Rattle.units.proofs.Jumping.{AllRest, sent_by-none, sent_in-none, asleep-until, sleep-on, some-unit}
-use Rattle.units.proofs.Travelling.{Goes}
+use Rattle.units.proofs.Jumping.{AllRest, sent_by-none, sent_in-none, asleep-until, sleep-on}
+use Rattle.units.proofs.SpanLaws.Later.{IsReceived}
 use Rattle.units.proofs.Lowering.{lowered-waits}
 use Rattle.units.proofs.Waiting.{none-due}
-
-some-of : {X : Type 0} (xs : List X) → 0 < length xs → X
-some-of [] l = absurd (omega (arith, l))
-some-of (x ∷ xs) l = x
 
 -- the shard that has the unit at a place
 record IsShardOfPlace (bounds : List ℕ) (place : ℕ) : Type 0 where
@@ -88,7 +84,7 @@ shard-sent machine bounds now until index shard h =
     let count : length shard.range.units.items ≡ bound bounds (suc index) - bound bounds index = omega (arith, h.first_is, h.past_is) in
     ap₂ (sent_by machine now until) h.first_is count
 
--- so all that was sent arrives no sooner than what each shard sent
+-- all that was sent in a phase arrives no sooner than what each shard sent
 sent-later : (machine : Machine) (bounds : List ℕ) (now until wake : ℕ) (shards : List (Box Shard Global)) → IsSplit machine.config bounds → suc (length shards) ≡ length bounds
     → ((index : ℕ) (d : Box Shard Global) → index < length shards → IsAtRest machine bounds index now until wake (get_or shards index d).value)
     → All (λ m. wake ≤ m.arrival) (sent_in machine now until)
@@ -128,12 +124,12 @@ sharded-still machine bounds now phase wake then shards inbound h l w = sleep-on
         let r = h.rest at.index some there in
         let k = place - bound bounds at.index in
         let i : k < length shard.range.units.items = omega (arith, at.since, at.before, r.is.first_is, r.is.past_is) in
-        let d = some-unit shard.range.units.items (omega (arith, i)) in
+        let d = some-of shard.range.units.items (omega (arith, i)) in
         let sleeper = sleeper_at shard.range.units.items shard.range.words.items k d in
         let e : shard.range.first + k ≡ place = omega (arith, at.since, r.is.first_is) in
         let u = unit_at machine.config place in
-        let b = subst (λ n. Waits machine (unit_at machine.config n) now h.began sleeper) e (r.gone.between k d i) in
-        let later = r.sleep k 0 (omega (arith, i, r.gone.words_count)) in
+        let b = subst (λ n. Waits machine (unit_at machine.config n) now h.began sleeper) e (r.has_run.between k d i) in
+        let later = r.sleep k 0 (omega (arith, i, r.has_run.words_count)) in
         let after : Sleeper = record { part = sleeper.part; at = sleeper.at; wake = then } in
         record {
           sleeper = after;
@@ -155,7 +151,7 @@ sharded-up_to machine bounds now phase wake then shards inbound h l w early inde
       order = h.order;
       travels = h.travels;
       is = r.is;
-      gone = r.gone;
+      has_run = r.has_run;
       count = h.lists index e less;
       inbound_are = h.inbound_are index d e less;
       since = l;
@@ -207,7 +203,7 @@ jobs-count : (machine : Machine) (bounds : List ℕ) (number from until : ℕ) �
 jobs-count machine bounds number from until = length-map-range_with_len (job_at machine bounds number from until) 0 (length bounds - 1)
 
 -- each shard has sent a list to each
-pub rows-square : (p : PhaseView) (wake : ℕ) (shards : List (Box Shard Global)) (outbound : List (Vec (Vec Message Global) Global)) → AreUnloaded p wake shards outbound
+pub rows-square : (p : PhaseView) (wake : ℕ) (shards : List (Box Shard Global)) (outbound : List (Vec (Vec Message Global) Global)) → AreTakenApart p wake shards outbound
     → IsSplit p.machine.config p.bounds → IsSquare (length outbound) outbound
 rows-square p wake shards outbound h split i d less =
     let count = jobs-count p.machine p.bounds p.number p.from p.until in
@@ -216,7 +212,7 @@ rows-square p wake shards outbound h split i d less =
     omega (arith, row, h.outbound_count, h.count, count, split.some)
 
 -- the shards of a machine at the end of a phase
-pub sharded-ends : (p : PhaseView) (wake : ℕ) (shards : List (Box Shard Global)) (outbound inbound : List (Vec (Vec Message Global) Global)) → IsPhase p → AreUnloaded p wake shards outbound
+pub sharded-ends : (p : PhaseView) (wake : ℕ) (shards : List (Box Shard Global)) (outbound inbound : List (Vec (Vec Message Global) Global)) → IsPhase p → AreTakenApart p wake shards outbound
     → length inbound ≡ length outbound → IsSquare (length outbound) inbound → AreTurned outbound inbound → IsSharded p.machine p.bounds p.until (p.number + 1) wake shards inbound
 sharded-ends p wake shards outbound inbound h un same square each =
     record {
@@ -245,17 +241,17 @@ sharded-ends p wake shards outbound inbound h un same square each =
     count = let n = jobs-count p.machine p.bounds p.number p.from p.until in omega (arith, un.count, n, h.split.some)
 
 -- what is in flight is still to arrive
-late-now : (machine : Machine) (now : ℕ) → late now (flight_at machine now) ≡ flight_at machine now
+late-now : (machine : Machine) (now : ℕ) → later_of now (flight_at machine now) ≡ flight_at machine now
 late-now machine now =
     filter-each (λ (m : Message). not (ltb m.arrival now)) (flight_at machine now)
-    (Each-weaker (λ (m : Message). Goes machine.config m × (now ≤ m.arrival)) (λ (m : Message). not (ltb m.arrival now) ≡ true) (λ m h. since m.arrival h.1) _ (flight-each machine.config machine.traces.items now))
+    (Each-weaker (λ (m : Message). IsReceived machine.config m × (now ≤ m.arrival)) (λ (m : Message). not (ltb m.arrival now) ≡ true) (λ m h. since m.arrival h.1) _ (flight-each machine.config machine.traces.items now))
   where
     since : (a : ℕ) → now ≤ a → not (ltb a now) ≡ true
     since a l = grind (arith, nat_tests)
 
 -- units that wait at a cycle have gone over no cycles
-asleep-gone : (machine : Machine) (first now : ℕ) (units : List TimedUnit) (words : List ℕ) (links : InFlight) → IsAsleep machine first now units words links → HaveGone machine first now now units words links
-asleep-gone machine first now units words links h =
+asleep-has_run : (machine : Machine) (first now : ℕ) (units : List TimedUnit) (words : List ℕ) (links : InFlight) → IsAsleep machine first now units words links → HaveRun machine first now now units words links
+asleep-has_run machine first now units words links h =
     record {
       within = h.within;
       words_count = h.words_count;
@@ -285,7 +281,7 @@ sharded-begins machine bounds now phase shards inbound counted early h many squa
           let a = h.asleep index d less in
           record {
             is = h.each index d less;
-            gone = asleep-gone machine shard.range.first now shard.range.units.items shard.range.words.items shard.traffic.links a;
+            has_run = asleep-has_run machine shard.range.first now shard.range.units.items shard.range.words.items shard.traffic.links a;
             since = omega arith;
             sleep = asleep-until machine shard.range.first now shard.range.units.items shard.range.words.items shard.traffic.links a;
             arrivals = subst (All (λ (m : Message). now ≤ m.arrival)) (sym (sent_by-none machine now shard.range.first (length shard.range.units.items))) (λ k e l. absurd (omega (arith, l)));

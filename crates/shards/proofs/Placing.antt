@@ -15,7 +15,8 @@ use Rattle.sim_base.specs.declared.fault.MergeFault.TheVariants.{Missing, Double
 use Rattle.sim_base.proofs.Lists.{length-map_below}
 use Rattle.units.proofs.Lasting.{same-answer}
 use Rattle.shards.specs.Jobs.{JobView}
-use Rattle.shards.specs.Merging.{same_name, is_among, names_of, fault_at, first_of, first_fault, missing, result_at, results_at}
+use Rattle.shards.specs.Merging.{same_name, is_among, names_of, fault_at, first_fault, missing, result_at, results_at}
+use Rattle.sim_base.specs.Scheduling.{or_else}
 use Rattle.shards.specs.Phases.{PhaseView, shard_count, name_of, job_of, jobs_of}
 use Rattle.shards.specs.declared.job.JobName.{JobName}
 
@@ -191,7 +192,7 @@ among-is p n =
     (λ e. let r = among-place p n e in subst (λ (m : JobName). is_of p m ≡ true) r.2 (is_of-own p r.0 r.1))
     (λ e. let r = is_of-name p n e in subst (λ (m : JobName). is_among (names_of p) m ≡ true) r.1 (place-among p n.shard r.0))
 
--- so such a name has a place
+-- a name that is among those of a phase has a place in it
 pub among-own : (p : PhaseView) (n : JobName) → is_among (names_of p) n ≡ true → (n.shard < shard_count p) × (name_of p n.shard ≡ n)
 among-own p n e = is_of-name p n (sym (among-is p n) ∙ e)
 
@@ -213,12 +214,12 @@ results-count p names = length-map_below (result_at p names) (shard_count p)
 pub first-none_yet : (p : PhaseView) (earlier names : List JobName) (name : JobName) → fault_at p earlier name ≡ None
     → first_fault p earlier (name ∷ names) ≡ first_fault p (earlier ++ name ∷ []) names
 unfolding first_fault
-first-none_yet p earlier names name e = ap (λ f. first_of f (first_fault p (earlier ++ name ∷ []) names)) e
+first-none_yet p earlier names name e = ap (λ f. or_else f (first_fault p (earlier ++ name ∷ []) names)) e
 
 pub first-found : (p : PhaseView) (earlier names : List JobName) (name : JobName) (fault : MergeFault) → fault_at p earlier name ≡ Some fault
     → first_fault p earlier (name ∷ names) ≡ Some fault
 unfolding first_fault
-first-found p earlier names name fault e = ap (λ f. first_of f (first_fault p (earlier ++ name ∷ []) names)) e
+first-found p earlier names name fault e = ap (λ f. or_else f (first_fault p (earlier ++ name ∷ []) names)) e
 
 pub first-end : (p : PhaseView) (earlier : List JobName) → first_fault p earlier [] ≡ None
 unfolding first_fault
@@ -235,7 +236,7 @@ taken-is : (p : PhaseView) (names : List JobName) (places : List (Option JobView
     → is_some (get_or places i None) ≡ t → is_among names (name_of p (0 + i)) ≡ t
 taken-is p names places i t e l h = ap (λ j. is_among names (name_of p j)) (zero-add i) ∙ sym (result-taken p names i) ∙ sym (ap is_some (result-is p names places i None e l)) ∙ h
 
--- so it is of a name of a job of the phase
+-- whether the place of a job's name has a result is whether the name is among those that came
 pub taken-name : (p : PhaseView) (names : List JobName) (name : JobName) (places : List (Option JobView)) → places ≡ results_at p names → is_among (names_of p) name ≡ true
     → is_among names name ≡ is_some (get_or places name.shard None)
 taken-name p names name places e known =
@@ -258,7 +259,7 @@ unfolding missing
 missing-none p names places e h =
     ap (option_map Missing) (none-false (λ i. is_among names (name_of p i)) 0 (shard_count p) (λ i m. taken-is p names places i true e m (h i m)))
 
--- and then all places have the results of the phase
+-- where no shard is missing, all places have the results of the phase
 pub all-placed : (p : PhaseView) (names : List JobName) (places : List (Option JobView)) → places ≡ results_at p names
     → ((i : ℕ) → i < shard_count p → is_some (get_or places i None) ≡ true) → places ≡ map Some (jobs_of p)
 unfolding results_at

@@ -66,7 +66,7 @@ job-own machine bounds name shard inbound h =
     subst (λ m. IsJob m shard.bounds.items name shard inbound) (sym is.machine_is)
     (subst (λ b. IsJob machine b name shard inbound) (sym is.bounds_are) h)
 
--- and contracts see it as one of this machine
+-- contracts see a shard's job in a phase as one of the phase's machine
 pub job-seen : (p : PhaseView) (index : ℕ) (shard : Shard) → IsShard p.machine p.bounds index shard → job_view shard (name_of p index) ≡ job_of p index
 job-seen p index shard is = ap₂ {C = JobView} (λ m b. record { machine = m; bounds = b; name = name_of p index }) is.machine_is is.bounds_are
 
@@ -85,8 +85,8 @@ pub stop-of_machine : (machine : Machine) (bounds : List ℕ) (index now : ℕ) 
 stop-of_machine machine bounds index now shard inbound h =
     let same = ap (λ (m : Machine). unit_count m.config) h.is.machine_is in
     record {
-      words = omega (arith, same, h.gone.within, h.gone.words_count);
-      links = ap (λ (x : InFlight). x.channels) h.gone.flight ∙ sym (ap (λ (m : Machine). m.config.channels) h.is.machine_is);
+      words = omega (arith, same, h.has_run.within, h.has_run.words_count);
+      links = ap (λ (x : InFlight). x.channels) h.has_run.flight ∙ sym (ap (λ (m : Machine). m.config.channels) h.is.machine_is);
     }
 
 -- a shard that takes up its lists sleeps

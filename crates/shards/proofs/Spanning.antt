@@ -3,14 +3,14 @@ use Rattle.std.proofs.Common.{◌≡◌, ℕ, ◌+◌, ◌-◌, ◌≤◌, Bool,
 use Rattle.std.proofs.lemmas.Bool.Decides.{nat_tests}
 use Rattle.std.specs.Prelude.{filter}
 use Rattle.std.specs.List.{list_any}
-use Rattle.sim_base.specs.History.{is_unit}
+use Rattle.sim_base.specs.History.{is_unit, receiver_of}
 use Rattle.sim_base.specs.Locality.{TravelsFor}
 use Rattle.sim_base.specs.declared.message.Message.{Message}
 use Rattle.sim_base.specs.declared.message.Unit.{Unit as MachineUnit}
 use Rattle.sim_base.specs.declared.message.Unit.TheVariants.{Core, Channel}
 use Rattle.sim_base.proofs.Ordered.{Each-weaker}
 use Rattle.sim_base.proofs.Lists.{filter-agree, filter-both}
-use Rattle.links.specs.InFlight.{InFlight, is_due, receiver_of}
+use Rattle.links.specs.InFlight.{InFlight, is_due}
 use Rattle.units.specs.SpanLaws.Flight.{left_after}
 use Rattle.units.proofs.SpanLaws.Flights.{any-and}
 use Rattle.units.proofs.SpanLaws.Flights as flights
@@ -19,10 +19,10 @@ use Rattle.units.proofs.SpanLaws.FlightsInTurns.{flights-meet}
 use Rattle.units.specs.declared.machine.Machine.{Machine}
 use Rattle.units.specs.Runs.{flight_at}
 use Rattle.units.specs.Flight.{goes_among, among}
-use Rattle.units.specs.Parts.{late}
+use Rattle.links.specs.Rings.{later_of}
 use Rattle.units.specs.Units.{unit_at}
 use Rattle.units.proofs.Due.{flight-each}
-use Rattle.units.specs.Wakes.{AllBrought, HaveGone, IsAsleep, IsBrought, WaitAll, units_from, links_after}
+use Rattle.units.specs.Wakes.{HoldInboxes, HaveRun, IsAsleep, HoldsInbox, WaitAll, units_from, links_after}
 use Rattle.units.specs.declared.timed_unit.TimedUnit.{TimedUnit}
 use Rattle.units.proofs.Going.{units-places}
 use Rattle.units.proofs.Sharing.{due-among}
@@ -35,12 +35,12 @@ none-in_flight machine now (Channel channel) =
     ap (filter (is_due machine.config.channels (Channel channel) 0 now)) (sym (flights-meet machine.config machine.traces.items now)) ∙ unit-overdue machine.config machine.traces.items now now (Channel channel)
 
 -- what is in flight is brought to all units, in a phase that is no longer than any message travels
-pub phase-brought : (machine : Machine) (first now until : ℕ) (units : List TimedUnit) (words : List ℕ) (links : InFlight) → IsAsleep machine first now units words links → now ≤ until
-    → TravelsFor machine.config (until - now) → AllBrought machine first (length units) now now until links
-phase-brought machine first now until units words links h l t k less =
+pub phase-holds_inbox : (machine : Machine) (first now until : ℕ) (units : List TimedUnit) (words : List ℕ) (links : InFlight) → IsAsleep machine first now units words links → now ≤ until
+    → TravelsFor machine.config (until - now) → HoldInboxes machine first (length units) now now until links
+phase-holds_inbox machine first now until units words links h l t k less =
     let u = unit_at machine.config (first + k) in
     let flying = flight_at machine now in
-    subst (IsBrought machine now now until u) (sym h.flight)
+    subst (HoldsInbox machine now now until u) (sym h.flight)
     (record {
       channels_are = refl;
       overdue = due-among machine.config first (first + length units) 0 now (first + k) flying (omega arith) (omega (arith, less)) ∙ none-in_flight machine now u;
@@ -57,7 +57,7 @@ kept goes false soon e = cc
 
 -- when all have taken theirs, what comes later is left
 phase-left : (machine : Machine) (first count now until : ℕ) → left_after machine.config.channels now until (units_from machine.config first count) (among machine.config first (first + count) (flight_at machine now))
-    ≡ among machine.config first (first + count) (late until (flight_at machine now))
+    ≡ among machine.config first (first + count) (later_of until (flight_at machine now))
 phase-left machine first count now until =
     flights.left-all machine.config.channels now until units (filter goes flying)
     ∙ sym (filter-both stays goes _ (λ m. refl) flying)
@@ -84,11 +84,11 @@ phase-left machine first count now until =
         ∙ ap (λ b. b && (leb now m.arrival && ltb m.arrival until)) (units-places machine.config first count (receiver_of machine.config.channels m.link)))
         ∙ kept (goes m) (leb now m.arrival) (ltb m.arrival until) since
 
--- so the phase is over for them
-pub phase-gone : (machine : Machine) (first now until : ℕ) (before units : List TimedUnit) (old words : List ℕ) (links after : InFlight) → IsAsleep machine first now before old links
+-- when all units have taken theirs, the phase is over for them
+pub phase-has_run : (machine : Machine) (first now until : ℕ) (before units : List TimedUnit) (old words : List ℕ) (links after : InFlight) → IsAsleep machine first now before old links
     → length units ≡ length before → length words ≡ length old → WaitAll machine first until now units words → after ≡ links_after machine.config now until first (length before) links
-    → HaveGone machine first now until units words after
-phase-gone machine first now until before units old words links after h e f wait left =
+    → HaveRun machine first now until units words after
+phase-has_run machine first now until before units old words links after h e f wait left =
     record {
       within = omega (arith, h.within, e);
       words_count = f ∙ h.words_count ∙ sym e;
@@ -96,5 +96,5 @@ phase-gone machine first now until before units old words links after h e f wait
       flight = left
           ∙ ap {A = InFlight} {B = InFlight} (links_after machine.config now until first (length before)) h.flight
           ∙ ap {B = InFlight} (λ ms. record { channels = machine.config.channels; messages = ms }) (phase-left machine first (length before) now until)
-          ∙ ap {B = InFlight} (λ n. record { channels = machine.config.channels; messages = among machine.config first (first + n) (late until (flight_at machine now)) }) (sym e);
+          ∙ ap {B = InFlight} (λ n. record { channels = machine.config.channels; messages = among machine.config first (first + n) (later_of until (flight_at machine now)) }) (sym e);
     }

@@ -10,7 +10,7 @@ use Rattle.std.proofs.lemmas.List.{drop-drop, length-replicate, get_or-replicate
 use Rattle.std.proofs.lemmas.Option.{slice_get-get_or}
 use Rattle.std.proofs.Math.Seq.{get_or-append_seam}
 use Rattle.sim_base.specs.declared.config.Config.{Config}
-use Rattle.sim_base.specs.History.{is_unit, insert_by_age}
+use Rattle.sim_base.specs.History.{is_unit, insert_by_age, receiver_of}
 use Rattle.sim_base.specs.declared.message.Message.{Message}
 use Rattle.sim_base.specs.declared.message.Unit.{Unit as MachineUnit}
 use Rattle.sim_base.specs.declared.message.Unit.TheVariants.{Core, Channel}
@@ -21,7 +21,7 @@ use Rattle.sim_base.proofs.Lists.{filter-both}
 use Rattle.sim_base.proofs.Grows.{is_unit-own}
 use Rattle.units.proofs.SpanLaws.Lists.{Sorted-filter}
 use Rattle.units.specs.SpanLaws.Units.{Exists}
-use Rattle.links.specs.InFlight.{InFlight, receiver_of}
+use Rattle.links.specs.InFlight.{InFlight}
 use Rattle.links.proofs.Ages.{by_age-same}
 use Rattle.units.specs.declared.machine.Machine.{Machine}
 use Rattle.units.specs.Runs.{flight_at}
@@ -83,7 +83,7 @@ apart-from : (p : Message → Bool) → ((m n : Message) → p m ≡ true → p 
     → Each (λ (m : Message). eqb n.link m.link ≡ false) (filter p ms)
 apart-from p h n e ms = Each-weaker (λ (m : Message). p m ≡ true) (λ (m : Message). eqb n.link m.link ≡ false) (λ m f. h m n f e) (filter p ms) (passes p ms)
 
--- those that pass can be put in first
+-- where a test passes or fails all messages of a link, the messages that pass can be put in first
 puts-parted : (p : Message → Bool) → ((m n : Message) → p m ≡ true → p n ≡ false → eqb n.link m.link ≡ false) → (acc ms : List Message)
     → puts acc ms ≡ puts (puts acc (filter p ms)) (filter (λ m. not (p m)) ms)
 puts-parted p h acc [] = refl
@@ -162,7 +162,7 @@ shard-asleep machine first past now units words links early count within wait fi
       ∙ ap {B = InFlight} (λ n. record { channels = machine.config.channels; messages = among machine.config first n (flight_at machine now) }) (sym count);
 }
 
--- so many of the units at places from one on
+-- the first n of the units at places from `first` on wait
 pub front-waits : (machine : Machine) (now first n : ℕ) (units left own : List TimedUnit) → left ≡ drop first units → own ≡ take n left → first + n ≤ length units
     → AllAwake machine 0 now units → AllAwake machine first now own
 front-waits machine now first n units left own e f l h k d m =
@@ -231,7 +231,7 @@ front-count a b units left own e f l m =
     let taken = ap length f ∙ length-take (b - a) left in
     omega (arith, size, taken, l, m)
 
--- and the others stand behind them
+-- the units behind those of a shard stand at the places behind its bounds
 pub front-rest : (a b : ℕ) (units left rest : List TimedUnit) → left ≡ drop a units → rest ≡ drop (b - a) left → a ≤ b → rest ≡ drop b units
 front-rest a b units left rest e f l =
     let sum : a + (b - a) ≡ b = omega (arith, l) in

@@ -8,7 +8,8 @@ use Rattle.std.proofs.lemmas.List.Sums.{sum_by-cons, sum_by-append}
 use Rattle.std.proofs.lemmas.Simd.{map-map}
 use Rattle.std.proofs.Math.Bool.{or-true}
 use Rattle.sim_base.specs.History.{below}
-use Rattle.shards.specs.Merging.{same_name, is_among, names_of, first_of, first_fault, missing, merge_fault, IsOf}
+use Rattle.shards.specs.Merging.{same_name, is_among, names_of, first_fault, missing, merge_fault, IsOf}
+use Rattle.sim_base.specs.Scheduling.{or_else}
 use Rattle.shards.specs.Jobs.{JobView}
 use Rattle.shards.specs.Phases.{PhaseView, shard_count, name_of, job_of, jobs_of}
 use Rattle.shards.specs.declared.job.JobName.{JobName}
@@ -106,7 +107,7 @@ moved p results same =
 alike : (p : PhaseView) (results : List JobView) → IsPermutation (jobs_of p) results → (n : JobName) → is_among (names_of p) n ≡ is_among (map (λ (d : JobView). d.name) results) n
 alike p results same n = list_any-IsPermutation (λ m. same_name m n) (names_of p) (map (λ (d : JobView). d.name) results) (moved p results same)
 
--- so there is no stranger among them and no double
+-- among results of which there is one of each job there is no stranger and no double
 pub whole-first : (p : PhaseView) (results : List JobView) → IsPermutation (jobs_of p) results → first_fault p [] (map (λ (d : JobView). d.name) results) ≡ None
 whole-first p results same =
     let names = map (λ (d : JobView). d.name) results in
@@ -119,9 +120,9 @@ pub whole-missing : (p : PhaseView) (results : List JobView) → IsPermutation (
 whole-missing p results same =
     no-missing p (map (λ (d : JobView). d.name) results) (λ place l. sym (alike p results same (name_of p place)) ∙ place-among p place l)
 
--- and they go together
+-- results of which there is one of each job can be put together
 pub whole-fits : (p : PhaseView) (results : List JobView) → IsPermutation (jobs_of p) results → merge_fault p (map (λ (d : JobView). d.name) results) ≡ None
-whole-fits p results same = ap₂ first_of (whole-first p results same) (whole-missing p results same)
+whole-fits p results same = ap₂ or_else (whole-first p results same) (whole-missing p results same)
 
 -- a job of a phase is of its machine
 all-own : (p : PhaseView) → All (IsOf p) (jobs_of p)
@@ -130,6 +131,6 @@ all-own p i d l among =
     let is : get_or (jobs_of p) i d ≡ job_of p i = get_or-map-range_with_len (job_of p) 0 (shard_count p) i i d m (zero-add i) in
     (ap (λ (j : JobView). j.machine) is, ap (λ (j : JobView). j.bounds) is)
 
--- and so are results of which there is one of each job
+-- results of which there is one of each job are of the phase's machine
 pub permuted_of : (p : PhaseView) (results : List JobView) → IsPermutation (jobs_of p) results → All (IsOf p) results
 permuted_of p results same = All-permutation (IsOf p) (jobs_of p) results same (all-own p)

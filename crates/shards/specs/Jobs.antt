@@ -1,10 +1,10 @@
 -- What a shard does in a phase, as a job that any thread may run.
 --     JobView      what contracts see of a shard's job in a phase, or of what came of it
---     job_view shard name      that of a job of this shard
+--     job_view shard name      the view of a job of this shard
 --     IsJob machine bounds name shard inbound      what holds of a job that is to be run
---     IsOwnJob name shard inbound      so it is of the machine and the bounds that the shard has
---     IsDone machine bounds name wake shard outbound      what holds of one that was run
---     IsOwnDone name wake shard outbound      so it is of the machine and the bounds that the shard has
+--     IsOwnJob name shard inbound      a job that is to be run, of the machine and the bounds that the shard has
+--     IsDone machine bounds name wake shard outbound      what holds of a job that was run
+--     IsOwnDone name wake shard outbound      a job that was run, of the machine and the bounds that the shard has
 --     jobs_at machine bounds phase from until      the jobs of a phase, shard by shard
 use Rattle.std.specs.Prelude.{ℕ, ◌-◌, ◌^◌, ◌<◌, ◌≤◌, List, length, map}
 use Rattle.std.specs.Arc.{arc_value}
@@ -35,7 +35,7 @@ pub record IsJob (machine : Machine) (bounds : List ℕ) (name : JobName) (shard
   pub early : name.until ≤ 10 ^ 12
   pub travels : TravelsFor machine.config (name.until - name.from)
 
--- the job is one of the machine and the bounds that the shard has
+-- a shard's job in a phase, of the machine and the bounds that the shard has
 abbrev pub IsOwnJob : JobName → Shard → List (Vec Message Global) → Type 0
 IsOwnJob name shard inbound = IsJob (arc_value shard.machine) shard.bounds.items name shard inbound
 
@@ -48,15 +48,15 @@ pub record IsDone (machine : Machine) (bounds : List ℕ) (name : JobName) (wake
   pub travels : TravelsFor machine.config (name.until - name.from)
   pub outbound_are : AreFrom machine bounds name.from name.until shard outbound
 
--- the job was one of the machine and the bounds that the shard has
+-- a shard has run its job in a phase, of the machine and the bounds that the shard has
 abbrev pub IsOwnDone : JobName → ℕ → Shard → List (Vec Message Global) → Type 0
 IsOwnDone name wake shard outbound = IsDone (arc_value shard.machine) shard.bounds.items name wake shard outbound
 
--- the job of the shard with a number in a phase
+-- the job of the shard with number `index` in a phase
 abbrev pub job_at : Machine → List ℕ → ℕ → ℕ → ℕ → ℕ → JobView
 job_at machine bounds phase from until index =
     record { machine = machine; bounds = bounds; name = record { phase = phase; shard = index; from = from; until = until } }
 
--- the jobs of a phase
+-- the jobs of all shards in a phase, by shard
 abbrev pub jobs_at : Machine → List ℕ → ℕ → ℕ → ℕ → List JobView
 jobs_at machine bounds phase from until = map (job_at machine bounds phase from until) (below (length bounds - 1))

@@ -5,13 +5,13 @@
 --     with_lists links lists      what is in flight after what stands in lists is sent
 --     LowersAll s first lists old new      words are lowered to what stands in lists
 --     AreSortedByShard s bounds sent lists      the list of each shard holds what goes to its units
---     GainOne s bounds m old new      it has gained a message, if that goes to its units
+--     GainOne s bounds m old new      the list of each shard has gained a message, if that goes to its units
 --     SameElsewhere index old new      lists stay as they were but for one
---     IsSquare count rows      each of some rows has this many lists
---     AllRowsEmpty count rows      nothing stands in any of them
---     HaveColumn index rows      each row has a list at an index
---     SameWidths old new, SameOtherColumns index old new      rows stay as they were but for the lists at an index
---     IsColumn index rows column      a column of the lists at an index
+--     IsSquare count rows      each of the first `count` rows has `count` lists
+--     AllRowsEmpty count rows      nothing stands in the lists of the first `count` rows
+--     HaveListsAt index rows      each row has a list at an index
+--     SameWidths old new, SameOtherLists index old new      rows stay as they were but for the lists at an index
+--     AreListsAt index rows column      a column of the lists at an index
 --     AreTurned rows columns      what stands by row and then by column, by column and then by row
 use Rattle.std.specs.Prelude.{◌≡◌, ◌≢◌, ℕ, suc, ◌<◌, List, [], ◌∷◌, ◌++◌, length, flat_map, slice_index_or, All}
 use Rattle.std.specs.declared.vec.Vec.{Vec}
@@ -22,11 +22,11 @@ use Rattle.links.specs.InFlight.{InFlight, with_sent}
 use Rattle.units.specs.Flight.{among}
 use Rattle.units.specs.Wakes.{AreLowered}
 
--- where the shard with a number begins; behind the last, the number of units
+-- where the shard with number `index` begins; behind the last shard, the number of units
 abbrev pub bound : List ℕ → ℕ → ℕ
 bound bounds index = slice_index_or bounds index 0
 
--- what stands in lists
+-- what stands in lists, one list after the other
 abbrev pub lists_of : List (Vec Message Global) → List Message
 lists_of lists = flat_map (λ (list : Vec Message Global). list.items) lists
 
@@ -38,7 +38,7 @@ AllEmpty lists = All (λ (list : Vec Message Global). list.items ≡ []) lists
 abbrev pub with_lists : InFlight → List (Vec Message Global) → InFlight
 with_lists links lists = with_sent links (lists_of lists)
 
--- the words of units at places from one on are lowered to the arrivals of what stands in lists
+-- the words of units at places from `first` on are lowered to the arrivals of what stands in lists
 abbrev pub LowersAll : Config → ℕ → List (Vec Message Global) → List ℕ → List ℕ → Type 0
 LowersAll s first lists old new = AreLowered s first (lists_of lists) old new
 
@@ -57,21 +57,24 @@ GainOne s bounds m old new =
 
 -- lists stay as they were but for the one at an index
 abbrev pub SameElsewhere : ℕ → List (Vec Message Global) → List (Vec Message Global) → Type 0
-SameElsewhere index old new = (k : ℕ) (d : Vec Message Global) → k ≢ index → slice_index_or new k d ≡ slice_index_or old k d
+SameElsewhere index old new =
+    (k : ℕ) (d : Vec Message Global) → k ≢ index → slice_index_or new k d ≡ slice_index_or old k d
 
--- each of the first rows has so many lists as there are such rows
+-- each of the first `count` rows has `count` lists
 abbrev pub IsSquare : ℕ → List (Vec (Vec Message Global) Global) → Type 0
 IsSquare count rows =
-    (index : ℕ) (d : Vec (Vec Message Global) Global) → index < count → length (slice_index_or rows index d).items ≡ count
+    (index : ℕ) (d : Vec (Vec Message Global) Global) → index < count
+    → length (slice_index_or rows index d).items ≡ count
 
--- nothing stands in the lists of the first rows
+-- nothing stands in the lists of the first `count` rows
 abbrev pub AllRowsEmpty : ℕ → List (Vec (Vec Message Global) Global) → Type 0
 AllRowsEmpty count rows =
-    (index : ℕ) (d : Vec (Vec Message Global) Global) → index < count → lists_of (slice_index_or rows index d).items ≡ []
+    (index : ℕ) (d : Vec (Vec Message Global) Global) → index < count
+    → lists_of (slice_index_or rows index d).items ≡ []
 
 -- each row has a list at this index
-abbrev pub HaveColumn : ℕ → List (Vec (Vec Message Global) Global) → Type 0
-HaveColumn index rows =
+abbrev pub HaveListsAt : ℕ → List (Vec (Vec Message Global) Global) → Type 0
+HaveListsAt index rows =
     (i : ℕ) (d : Vec (Vec Message Global) Global) → i < length rows → index < length (slice_index_or rows i d).items
 
 -- each row has as many lists as before
@@ -81,14 +84,15 @@ SameWidths old new =
     → length (slice_index_or new i d).items ≡ length (slice_index_or old i d).items
 
 -- the lists of all rows stay as they were but for those at an index
-abbrev pub SameOtherColumns : ℕ → List (Vec (Vec Message Global) Global) → List (Vec (Vec Message Global) Global) → Type 0
-SameOtherColumns index old new =
+abbrev pub SameOtherLists : ℕ → List (Vec (Vec Message Global) Global) → List (Vec (Vec Message Global) Global)
+    → Type 0
+SameOtherLists index old new =
     (i j : ℕ) (d : Vec (Vec Message Global) Global) (f : Vec Message Global) → j ≢ index
     → slice_index_or (slice_index_or new i d).items j f ≡ slice_index_or (slice_index_or old i d).items j f
 
 -- the lists that stood at an index of the rows, row by row
-abbrev pub IsColumn : ℕ → List (Vec (Vec Message Global) Global) → List (Vec Message Global) → Type 0
-IsColumn index rows column =
+abbrev pub AreListsAt : ℕ → List (Vec (Vec Message Global) Global) → List (Vec Message Global) → Type 0
+AreListsAt index rows column =
     (i : ℕ) (d : Vec (Vec Message Global) Global) (f g : Vec Message Global) → i < length rows
     → slice_index_or column i f ≡ slice_index_or (slice_index_or rows i d).items index g
 
@@ -96,4 +100,5 @@ IsColumn index rows column =
 abbrev pub AreTurned : List (Vec (Vec Message Global) Global) → List (Vec (Vec Message Global) Global) → Type 0
 AreTurned rows columns =
     (i j : ℕ) (d e : Vec (Vec Message Global) Global) (f g : Vec Message Global) → i < length rows → j < length rows
-    → (slice_index_or (slice_index_or columns j d).items i f).items ≡ (slice_index_or (slice_index_or rows i e).items j g).items
+    → (slice_index_or (slice_index_or columns j d).items i f).items
+    ≡ (slice_index_or (slice_index_or rows i e).items j g).items

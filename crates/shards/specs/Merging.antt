@@ -2,7 +2,7 @@
 --     names_of p      the names of the jobs of a phase
 --     is_among names name      a name is among others
 --     fault_at p earlier name      what is wrong with a result that comes after others
---     first_fault p earlier names      the first such fault
+--     first_fault p earlier names      the first fault of results with these names, which come after others
 --     missing p names      the first shard without a result
 --     merge_fault p names      what is wrong with the results of a phase, if something is
 --     IsOf p result      a result that carries the name of a job of a phase is of the phase's machine
@@ -10,8 +10,8 @@
 --     names_in results      the names of results
 --     has_span p name      a name has the number and the cycles of a phase
 --     IsPut p index name old new      a result is put in its place
---     IsNameFault p index name old fault      its name is at fault
---     IsFirstFault p names fault      the first name at fault is so
+--     IsNameFault p index name old fault      the name of a result is at fault
+--     IsFirstFault p names fault      the first name at fault has this fault
 --     ArePlaced p names places      results stand in their places, and none of their names is at fault
 --     AreAllThere places, IsMissing places fault      each shard has a result, or one has none
 --     fault_in p results      what is wrong with results, if something is
@@ -25,6 +25,7 @@ use Rattle.sim_base.specs.declared.fault.MergeFault.TheVariants.{Memory, Missing
 use Rattle.shards.specs.Jobs.{JobView}
 use Rattle.shards.specs.Phases.{PhaseView, shard_count, name_of, job_of, jobs_of}
 use Rattle.shards.specs.declared.job.JobName.{JobName}
+use Rattle.sim_base.specs.Scheduling.{or_else}
 
 -- two names are the same
 abbrev pub same_name : JobName → JobName → Bool
@@ -38,23 +39,18 @@ is_among names name = list_any (λ n. same_name n name) names
 abbrev pub names_of : PhaseView → List JobName
 names_of p = map (name_of p) (below (shard_count p))
 
--- A result that comes after others is a stranger where its name belongs to no job of the phase, and a double where
--- one of them has its name. The fault says how many come before it.
+-- A result that comes after others is a stranger where its name belongs to no job of the phase, and a double where one
+-- of the others has its name. The fault says how many come before it.
 unfoldable pub fault_at : PhaseView → List JobName → JobName → Option MergeFault
 fault_at p earlier name =
     if not (is_among (names_of p) name) then Some (Stranger (length earlier))
     else if is_among earlier name then Some (Double (length earlier))
     else None
 
--- of two faults the first, if there is one
-abbrev pub first_of : Option MergeFault → Option MergeFault → Option MergeFault
-first_of (Some fault) other = Some fault
-first_of None other = other
-
 -- the first stranger or double of a list, after some earlier results
 unfoldable pub first_fault : PhaseView → List JobName → List JobName → Option MergeFault
 first_fault p earlier [] = None
-first_fault p earlier (name ∷ names) = first_of (fault_at p earlier name) (first_fault p (earlier ++ name ∷ []) names)
+first_fault p earlier (name ∷ names) = or_else (fault_at p earlier name) (first_fault p (earlier ++ name ∷ []) names)
 
 -- the least shard that has no result
 unfoldable pub missing : PhaseView → List JobName → Option MergeFault
@@ -63,7 +59,7 @@ missing p names = option_map Missing (find (λ shard. not (is_among names (name_
 -- what is wrong with the results of a phase: the first stranger or double decides, and otherwise the least shard
 -- without a result
 abbrev pub merge_fault : PhaseView → List JobName → Option MergeFault
-merge_fault p names = first_of (first_fault p [] names) (missing p names)
+merge_fault p names = or_else (first_fault p [] names) (missing p names)
 
 -- a result that carries the name of a job of a phase is of the phase's machine, in its shards
 abbrev pub IsOf : PhaseView → JobView → Type 0
@@ -85,14 +81,14 @@ names_in results = map (λ (d : JobView). d.name) results
 abbrev pub has_span : PhaseView → JobName → Bool
 has_span p name = (name.phase == p.number) && ((name.from == p.from) && (name.until == p.until))
 
--- A result with this name, which comes after so many others, is put in the place of its shard, where the results of
--- the others stand in theirs: its name is not at fault.
+-- A result with this name, which comes after `index` others, is put in the place of its shard, where the results of the
+-- others stand in theirs: its name is not at fault.
 abbrev pub IsPut : PhaseView → ℕ → JobName → List (Option JobView) → List (Option JobView) → Type 0
 IsPut p index name old new =
     (names : List JobName) → old ≡ results_at p names → length names ≡ index
     → (fault_at p names name ≡ None) × (new ≡ results_at p (names ++ name ∷ []))
 
--- this is wrong with the name, after the others
+-- the name of a result, which comes after `index` others, is at fault, and this is the fault
 abbrev pub IsNameFault : PhaseView → ℕ → JobName → List (Option JobView) → MergeFault → Type 0
 IsNameFault p index name old fault =
     (names : List JobName) → old ≡ results_at p names → length names ≡ index → fault_at p names name ≡ Some fault
@@ -111,9 +107,10 @@ AreAllThere places =
     (p : PhaseView) (names : List JobName) → places ≡ results_at p names
     → (missing p names ≡ None) × (places ≡ map Some (jobs_of p))
 
--- whichever they are, a shard has none, as the fault says
+-- whichever results of a phase stand in these places, a shard has none, as the fault says
 abbrev pub IsMissing : List (Option JobView) → MergeFault → Type 0
-IsMissing places fault = (p : PhaseView) (names : List JobName) → places ≡ results_at p names → missing p names ≡ Some fault
+IsMissing places fault =
+    (p : PhaseView) (names : List JobName) → places ≡ results_at p names → missing p names ≡ Some fault
 
 -- what is wrong with these results of a phase, if something is
 abbrev pub fault_in : PhaseView → List JobView → Option MergeFault

@@ -4,22 +4,22 @@
 --     nth_shard shards index d      the shard with a number
 --     IsShard machine bounds index shard      the shard with a number, of this machine
 --     Sleeps machine now shard      a shard's units wait at a cycle, with what is in flight to them
---     SleepsAt machine first now shard      so they do at places from one on
---     IsRangeAsleep machine now range links      so do units at their places
---     HasGone machine from until shard      a shard's units have gone over a phase
---     HasRangeGone machine from until range links      so have units at their places
---     AllAwake machine first now units      units at places from one on stand at a cycle, where each may be asked
+--     SleepsAt machine first now shard      a shard's units wait at a cycle, at places from `first` on
+--     IsRangeAsleep machine now range links      the units of a range wait at a cycle, with what is in flight to them
+--     HasShardRun machine from until shard      a shard's units have gone over a phase
+--     HasRangeRun machine from until range links      the units of a range have gone over a phase
+--     AllAwake machine first now units      units at places from `first` on stand at a cycle, where each may be asked
 --     links_among s first past ms, flight_to machine now first past      links that hold what goes to some units
 --     HaveSent machine from until range mail      what units sent in a span stands in a list
 --     sent_of_shard machine from until shard      what the units of a shard send in a span
 --     AreFor machine from until shard lists      lists hold what was sent to the units of a shard in a span
---     AreFrom machine bounds from until shard lists      they hold what its units sent, by the shard that it goes to
---     HasJoined shard old new      so many units more, as a shard has
+--     AreFrom machine bounds from until shard lists      lists hold what a shard's units sent, by receiving shard
+--     AddsUnits shard old new      there are as many units more as a shard has
 --     IsOfMachine shard      the units and the links of a shard are those of its machine
 --     ChangesOnlyMail old new      only the words of a shard's units, and what is in flight to them, have changed
 --     LowersWords lists old new      the words of a shard are lowered to what stands in lists
 --     HasSent from until old new      a shard keeps what its units sent in a span
---     HoldWhatWasSent shard lists      lists hold this, by the shard that it goes to
+--     HoldWhatWasSent shard lists      lists hold what a shard keeps of what its units sent, by receiving shard
 --     IsAtRest machine bounds index from until wake shard      a shard at the end of a phase
 --     IsUpTo machine bounds index now shard inbound      a shard up to a cycle before which nothing more happens
 --     AreShards machine bounds now shards      all shards of a machine, where it stands at a cycle
@@ -40,7 +40,7 @@ use Rattle.units.specs.Units.{unit_at, unit_count}
 use Rattle.units.specs.declared.machine.Machine.{Machine}
 use Rattle.units.specs.declared.message_lists.MessageLists.{MessageLists}
 use Rattle.units.specs.declared.part.UnitState.{UnitState}
-use Rattle.units.specs.Wakes.{IsStill, HaveGone, IsAsleep, Waits, sent_in, sleeper}
+use Rattle.units.specs.Wakes.{IsStill, HaveRun, IsAsleep, Waits, sent_in, sleeper}
 use Rattle.units.specs.declared.timed_unit.TimedUnit.{TimedUnit}
 use Rattle.units.specs.declared.waking.UnitRange.{UnitRange}
 use Rattle.shards.specs.declared.shard.Shard.{Shard}
@@ -57,7 +57,7 @@ pub record IsSplit (s : Config) (bounds : List ℕ) : Type 0 where
 abbrev pub nth_shard : List (Box Shard Global) → ℕ → Box Shard Global → Shard
 nth_shard shards index d = (slice_index_or shards index d).value
 
--- the units of the shard with a number
+-- the shard with number `index` of this machine, which has the units at its places
 pub record IsShard (machine : Machine) (bounds : List ℕ) (index : ℕ) (shard : Shard) : Type 0 where
   pub machine_is : arc_value shard.machine ≡ machine
   pub bounds_are : shard.bounds.items ≡ bounds
@@ -65,40 +65,40 @@ pub record IsShard (machine : Machine) (bounds : List ℕ) (index : ℕ) (shard 
   pub first_is : shard.range.first ≡ bound bounds index
   pub past_is : shard.range.first + length shard.range.units.items ≡ bound bounds (suc index)
 
--- The units of a shard, at places from one on, wait at a cycle, each with its word, and its links hold just what is
+-- The units of a shard, at places from `first` on, wait at a cycle, each with its word, and its links hold just what is
 -- in flight to them.
 abbrev pub SleepsAt : Machine → ℕ → ℕ → Shard → Type 0
 SleepsAt machine first now shard =
     IsAsleep machine first now shard.range.units.items shard.range.words.items shard.traffic.links
 
--- units wait so at their places
+-- the units of a range wait at a cycle, each with its word, and the links hold just what is in flight to them
 abbrev pub IsRangeAsleep : Machine → ℕ → UnitRange → InFlight → Type 0
 IsRangeAsleep machine now range links = IsAsleep machine range.first now range.units.items range.words.items links
 
--- so do those of a shard
+-- the units of a shard wait at a cycle, each with its word, and its links hold just what is in flight to them
 abbrev pub Sleeps : Machine → ℕ → Shard → Type 0
 Sleeps machine now shard = IsRangeAsleep machine now shard.range shard.traffic.links
 
--- units have gone over a phase, and the links hold what was in flight to them before and arrives later
-abbrev pub HasRangeGone : Machine → ℕ → ℕ → UnitRange → InFlight → Type 0
-HasRangeGone machine from until range links =
-    HaveGone machine range.first from until range.units.items range.words.items links
+-- the units of a range have gone over a phase, and the links hold what was in flight to them before and arrives later
+abbrev pub HasRangeRun : Machine → ℕ → ℕ → UnitRange → InFlight → Type 0
+HasRangeRun machine from until range links =
+    HaveRun machine range.first from until range.units.items range.words.items links
 
--- so have those of a shard
-abbrev pub HasGone : Machine → ℕ → ℕ → Shard → Type 0
-HasGone machine from until shard = HasRangeGone machine from until shard.range shard.traffic.links
+-- the units of a shard have gone over a phase, and its links hold what was in flight to them before and arrives later
+abbrev pub HasShardRun : Machine → ℕ → ℕ → Shard → Type 0
+HasShardRun machine from until shard = HasRangeRun machine from until shard.range shard.traffic.links
 
--- units at places from one on stand at a cycle, which is the word of each
+-- units at places from `first` on stand at cycle `now`, which is the word of each
 abbrev pub AllAwake : Machine → ℕ → ℕ → List TimedUnit → Type 0
 AllAwake machine first now units =
     (k : ℕ) (d : TimedUnit) → k < length units
     → Waits machine (unit_at machine.config (first + k)) now now (sleeper (slice_index_or units k d) now)
 
--- links that hold, of these messages, those to units at places from one on and before another, put in by age
+-- links that hold, of these messages, those to units at places from `first` up to `past`, put in by age
 abbrev pub links_among : Config → ℕ → ℕ → List Message → InFlight
 links_among s first past ms = record { channels = s.channels; messages = fold insert_by_age [] (among s first past ms) }
 
--- links that hold just what is in flight to units at these places before a cycle of the run
+-- links that hold just what is in flight before a cycle of the run to units at places from `first` up to `past`
 abbrev pub flight_to : Machine → ℕ → ℕ → ℕ → InFlight
 flight_to machine now first past =
     record { channels = machine.config.channels; messages = among machine.config first past (flight_at machine now) }
@@ -107,7 +107,7 @@ flight_to machine now first past =
 abbrev pub sent_of_shard : Machine → ℕ → ℕ → Shard → List Message
 sent_of_shard machine from until shard = sent_by machine from until shard.range.first (length shard.range.units.items)
 
--- a list holds what units send in a span
+-- a list holds what the units of a range send in a span
 abbrev pub HaveSent : Machine → ℕ → ℕ → UnitRange → MessageLists → Type 0
 HaveSent machine from until range lists =
     lists.sent.items ≡ sent_by machine from until range.first (length range.units.items)
@@ -115,7 +115,9 @@ HaveSent machine from until range lists =
 -- lists hold, of what all units sent in a span, what goes to those of a shard
 abbrev pub AreFor : Machine → ℕ → ℕ → Shard → List (Vec Message Global) → Type 0
 AreFor machine from until shard lists =
-    lists_of lists ≡ among machine.config shard.range.first (shard.range.first + length shard.range.units.items) (sent_in machine from until)
+    lists_of lists
+    ≡ among machine.config shard.range.first (shard.range.first + length shard.range.units.items)
+    (sent_in machine from until)
 
 -- the list with a number holds, of what the units of a shard sent in a span, what goes to those of the shard with
 -- this number
@@ -124,8 +126,8 @@ pub record AreFrom (machine : Machine) (bounds : List ℕ) (from until : ℕ) (s
   pub each : AreSortedByShard machine.config bounds (sent_of_shard machine from until shard) lists
 
 -- there are as many units more as a shard has
-abbrev pub HasJoined : Shard → List UnitState → List UnitState → Type 0
-HasJoined shard old new = length new ≡ length old + length shard.range.units.items
+abbrev pub AddsUnits : Shard → List UnitState → List UnitState → Type 0
+AddsUnits shard old new = length new ≡ length old + length shard.range.units.items
 
 -- The words of a shard are of units that its machine has, and its links are those of this machine.
 pub record IsOfMachine (shard : Shard) : Type 0 where
@@ -142,26 +144,28 @@ ChangesOnlyMail old new =
 
 -- the words of a shard's units are lowered to the arrivals of what stands in lists
 abbrev pub LowersWords : List (Vec Message Global) → Shard → Shard → Type 0
-LowersWords lists old new = LowersAll (arc_value old.machine).config old.range.first lists old.range.words.items new.range.words.items
+LowersWords lists old new =
+    LowersAll (arc_value old.machine).config old.range.first lists old.range.words.items new.range.words.items
 
 -- a shard keeps what its units sent in a span
 abbrev pub HasSent : ℕ → ℕ → Shard → Shard → Type 0
 HasSent from until old new = new.traffic.lists.sent.items ≡ sent_of_shard (arc_value old.machine) from until old
 
--- lists hold what a shard keeps, by the shard that it goes to
+-- lists hold what a shard keeps of what its units sent, by the shard that it goes to
 abbrev pub HoldWhatWasSent : Shard → List (Vec Message Global) → Type 0
-HoldWhatWasSent shard lists = AreSortedByShard (arc_value shard.machine).config shard.bounds.items shard.traffic.lists.sent.items lists
+HoldWhatWasSent shard lists =
+    AreSortedByShard (arc_value shard.machine).config shard.bounds.items shard.traffic.lists.sent.items lists
 
--- A shard at the end of a phase. Before a cycle its units send nothing, and nothing that they sent arrives.
+-- A shard at the end of a phase. Before cycle `wake` its units send nothing, and nothing that they sent arrives.
 pub record IsAtRest (machine : Machine) (bounds : List ℕ) (index from until wake : ℕ) (shard : Shard) : Type 0 where
   pub is : IsShard machine bounds index shard
-  pub gone : HasGone machine from until shard
+  pub has_run : HasShardRun machine from until shard
   pub since : until ≤ wake
   pub sleep : All (λ word. wake ≤ word) shard.range.words.items
   pub arrivals : All (λ m. wake ≤ m.arrival) (sent_of_shard machine from until shard)
 
 -- A shard stands at the end of a phase, lists hold what was sent to its units in that phase, and nothing happens from
--- there on up to a cycle.
+-- there on up to cycle `now`.
 pub record IsUpTo (machine : Machine) (bounds : List ℕ) (index now : ℕ) (shard : Shard) (inbound : List (Vec Message Global)) : Type 0 where
   pub split : IsSplit machine.config bounds
   pub began : ℕ
@@ -169,7 +173,7 @@ pub record IsUpTo (machine : Machine) (bounds : List ℕ) (index now : ℕ) (sha
   pub order : began ≤ last
   pub travels : TravelsFor machine.config (last - began)
   pub is : IsShard machine bounds index shard
-  pub gone : HasGone machine began last shard
+  pub has_run : HasShardRun machine began last shard
   pub count : suc (length inbound) ≡ length bounds
   pub inbound_are : AreFor machine began last shard inbound
   pub since : last ≤ now
@@ -182,8 +186,10 @@ pub record IsUpTo (machine : Machine) (bounds : List ℕ) (index now : ℕ) (sha
 pub record AreShards (machine : Machine) (bounds : List ℕ) (now : ℕ) (shards : List (Box Shard Global)) : Type 0 where
   pub split : IsSplit machine.config bounds
   pub count : suc (length shards) ≡ length bounds
-  pub each : (index : ℕ) (d : Box Shard Global) → index < length shards → IsShard machine bounds index (nth_shard shards index d)
-  pub asleep : (index : ℕ) (d : Box Shard Global) → index < length shards → Sleeps machine now (nth_shard shards index d)
+  pub each : (index : ℕ) (d : Box Shard Global) → index < length shards
+      → IsShard machine bounds index (nth_shard shards index d)
+  pub asleep : (index : ℕ) (d : Box Shard Global) → index < length shards
+      → Sleeps machine now (nth_shard shards index d)
 
 -- What holds of all shards of a machine between two phases: each is at rest, and what was sent to it stands in its
 -- lists.

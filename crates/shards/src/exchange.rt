@@ -4,7 +4,7 @@ ghost use Rattle.std.specs.Prelude.{◌≡◌, ◌<◌, ◌≤◌, ℕ, suc, len
 ghost use Rattle.std.specs.declared.vec.Vec.{Vec};
 ghost use Rattle.std.specs.declared.alloc.Global.{Global};
 ghost use Rattle.sim_base.specs.declared.message.Message.{Message};
-ghost use Rattle.shards.specs.Lists.{AllEmpty, AreSortedByShard, AreTurned, GainOne, HaveColumn, IsColumn, IsSquare, SameElsewhere, SameOtherColumns, SameWidths, bound};
+ghost use Rattle.shards.specs.Lists.{AllEmpty, AreSortedByShard, AreTurned, GainOne, HaveListsAt, AreListsAt, IsSquare, SameElsewhere, SameOtherLists, SameWidths, bound};
 ghost use Rattle.shards.specs.Shards.{IsSplit};
 
 use sim_base::config::Config;
@@ -84,12 +84,12 @@ fn column(
     rows: &mut [Vec<Vec<Message>>],
     index: usize,
 ) -> Result<Vec<Vec<Message>>, AllocError>
-    requires { HaveColumn index rows.old }
+    requires { HaveListsAt index rows.old }
     ensures count { length rows.new ≡ length rows.old }
     ensures widths { SameWidths rows.old rows.new }
-    ensures others { SameOtherColumns index rows.old rows.new }
+    ensures others { SameOtherLists index rows.old rows.new }
     ensures height { IfOk result (λ column. length column.items ≡ length rows.old) }
-    ensures each { IfOk result (λ column. IsColumn index rows.old column.items) }
+    ensures each { IfOk result (λ column. AreListsAt index rows.old column.items) }
 {
     let mut column = Vec::with_capacity(alloc, rows.len())?;
     for row in rows.iter_mut() {

@@ -8,8 +8,8 @@ use sim_base::message::{Cycle, Message};
 use std::alloc::AllocError;
 use std::marker::Model;
 
-/// The name of a job: the number of the phase, that of the shard, and the cycles of the phase, from one on and before
-/// another.
+/// The name of a job: the number of the phase, the number of the shard, and the cycles of the phase, from `from` up to
+/// `until`.
 #[derive(Clone, Copy, Debug, PartialEq, Eq)]
 pub struct JobName {
     pub phase: u64,
@@ -75,7 +75,7 @@ impl DoneOf<Job> for Done {
 }
 
 impl Done {
-    /// The name of the job that this came of.
+    /// The name of the job whose result this is.
     pub fn name(&self) -> JobName
         ensures { result ≡ self.now.name }
     {

@@ -2,7 +2,7 @@
 
 ghost use Rattle.std.specs.Prelude.{◌≡◌, ◌<◌, [], Some, None, Err, length, map, is_some, slice_index_or, All, IfOk, IfErr, IfSome, IsOkUnless, OnOk};
 ghost use Rattle.shards.specs.Merging.{AreAllThere, ArePlaced, IsMissing, IsNameFault, IsOf, IsFirstFault, IsOneOfEach, IsPut, IsWhyUnmerged, fault_in, has_span, is_among, names_in, names_of, results_at};
-ghost use Rattle.shards.specs.Phases.{UnloadAny, ended, jobs_of, shard_count};
+ghost use Rattle.shards.specs.Phases.{TakesApartAny, ended, jobs_of, shard_count};
 
 use crate::exchange::by_receiver;
 use crate::job::{Done, JobName};
@@ -15,7 +15,7 @@ use std::marker::Model;
 use std::sync::Arc;
 use units::machine::Machine;
 
-/// The cycles of a phase, from one on and before another, and its number.
+/// The cycles of a phase, from `from` up to `until`, and its number.
 #[derive(Clone, Copy)]
 pub(crate) struct PhaseSpan {
     pub number: u64,
@@ -87,7 +87,7 @@ impl Phase {
 
 /// What came of the jobs of a phase, shard by shard.
 #[derive(Drop)]
-struct Unloaded {
+struct TakenApart {
     shards: Vec<Box<Shard>>,
     outbound: Vec<Vec<Vec<Message>>>,
     wake: Cycle,
@@ -113,7 +113,7 @@ fn has_span(phase: &Outline, name: JobName) -> bool
         && (name.from == phase.span.from && name.until == phase.span.until)
 }
 
-/// Whether a name is that of a job of the phase.
+/// Whether a job of the phase has this name.
 fn is_of_phase(phase: &Outline, name: JobName) -> bool
     ensures { result ≡ is_among (names_of phase.now) name }
 {
@@ -173,7 +173,7 @@ fn sorted_by_shard(
     Ok(places)
 }
 
-/// Whether each shard has a result. The least that has none is a fault.
+/// Whether each shard has a result. The least shard that has none is a fault.
 fn are_all_there(places: &[Option<Done>]) -> Result<(), MergeFault>
     ensures ok { OnOk result (AreAllThere places.now) }
     ensures err { IfErr result (IsMissing places.now) }
@@ -187,8 +187,8 @@ fn are_all_there(places: &[Option<Done>]) -> Result<(), MergeFault>
 }
 
 /// Takes apart the results that are in their places.
-fn unload(alloc: Global, places: Vec<Option<Done>>) -> Result<Unloaded, AllocError>
-    ensures { IfOk result (λ r. UnloadAny places.items r.wake r.shards.items r.outbound.items) }
+fn take_apart(alloc: Global, places: Vec<Option<Done>>) -> Result<TakenApart, AllocError>
+    ensures { IfOk result (λ r. TakesApartAny places.items r.wake r.shards.items r.outbound.items) }
 {
     let mut shards = Vec::with_capacity(alloc, places.len())?;
     let mut outbound = Vec::with_capacity(alloc, places.len())?;
@@ -205,7 +205,7 @@ fn unload(alloc: Global, places: Vec<Option<Done>>) -> Result<Unloaded, AllocErr
         outbound.push(lists)?;
         first = first.min(wake);
     }
-    Ok(Unloaded {
+    Ok(TakenApart {
         shards,
         outbound,
         wake: first,
@@ -226,11 +226,11 @@ fn joined(
         bounds,
         span,
     } = phase;
-    let Unloaded {
+    let TakenApart {
         shards,
         outbound,
         wake,
-    } = unload(alloc, places)?;
+    } = take_apart(alloc, places)?;
     let inbound = by_receiver(alloc, outbound)?;
     Ok(ShardedSim {
         machine,
@@ -244,9 +244,9 @@ fn joined(
 }
 
 /// Puts the results of a phase together, in whatever order they come: the simulator then stands at the end of the
-/// phase. The first result of the list that belongs to no job of the phase, or whose name came earlier, is a fault,
-/// and otherwise the least shard without a result: that is told even where memory is short. Where there is one result
-/// of each job, only memory can be refused.
+/// phase. The first result of the list that belongs to no job of the phase, or whose name came earlier, is a fault, and
+/// otherwise the least shard without a result. A fault is told even where memory is short. Where there is one result of
+/// each job, only memory can be refused.
 pub fn merge(phase: Phase, alloc: Global, results: Vec<Done>) -> Result<ShardedSim, MergeFault>
     requires of { All (IsOf phase) results.items }
     ensures ok { IfOk result (λ sim. sim ≡ ended phase) }

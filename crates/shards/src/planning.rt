@@ -9,7 +9,7 @@ use crate::job::{Job, JobName};
 use crate::merging::{Outline, Phase, PhaseSpan, no_results};
 use crate::shard::Shard;
 use crate::sharded::ShardedSim;
-use crate::split::{Standing, rejoined};
+use crate::split::{ShardLayout, rejoined};
 use sim_base::message::{Cycle, Message};
 use std::alloc::{AllocError, Global};
 use std::mem;
@@ -56,24 +56,24 @@ fn jobs_for(
 }
 
 /// All shards at a cycle before which nothing happens any more, with what was sent to them taken up.
-fn settled(
+fn stopped(
     alloc: Global,
-    standing: &Standing,
+    standing: &ShardLayout,
     shards: Vec<Box<Shard>>,
     inbound: Vec<Vec<Vec<Message>>>,
 ) -> Result<Vec<Box<Shard>>, AllocError>
     requires { MayStopAt standing.now shards.items inbound.items }
-    ensures { IfOk result (λ settled. AreShardsAt standing.now settled.items) }
+    ensures { IfOk result (λ stopped. AreShardsAt standing.now stopped.items) }
 {
     let mut inbound = inbound;
-    let mut settled = Vec::with_capacity(alloc, shards.len())?;
+    let mut stopped = Vec::with_capacity(alloc, shards.len())?;
     for shard in shards {
-        let index = settled.len();
+        let index = stopped.len();
         let mut shard = shard;
         shard.take_up(&mut inbound[index])?;
-        settled.push(shard)?;
+        stopped.push(shard)?;
     }
-    Ok(settled)
+    Ok(stopped)
 }
 
 /// What comes next up to a limit, at most 10^12 cycles: the phase that begins where something happens next, or the
@@ -94,12 +94,12 @@ pub fn plan(sim: ShardedSim, alloc: Global, limit: Cycle) -> Result<Planned, All
         ..
     } = sim;
     if wake >= limit {
-        let standing = Standing {
+        let standing = ShardLayout {
             machine,
             bounds,
             at: limit,
         };
-        let shards = settled(alloc, &standing, shards, inbound)?;
+        let shards = stopped(alloc, &standing, shards, inbound)?;
         return Ok(Planned::AtLimit(rejoined(alloc, standing, shards, number)?));
     }
     let span = PhaseSpan {

@@ -3,11 +3,11 @@
 ghost use Rattle.std.specs.Prelude.{◌≡◌, ◌<◌, ◌≤◌, ◌^◌, ◌+◌, ◌-◌, ℕ, suc, [], length, All, IfOk, OnOk};
 ghost use Rattle.std.specs.Arc.{arc_value};
 ghost use Rattle.sim_base.specs.Locality.{TravelsFor};
-ghost use Rattle.links.specs.InFlight.{NoneBefore, with_sent};
+ghost use Rattle.links.specs.InFlight.{NoneArrivesBefore, with_sent};
 ghost use Rattle.units.specs.Units.{unit_count};
 ghost use Rattle.units.specs.Wakes.{AreLowered};
 ghost use Rattle.shards.specs.Lists.{AllEmpty, LowersAll, with_lists};
-ghost use Rattle.shards.specs.Shards.{ChangesOnlyMail, HasGone, HasRangeGone, HasSent, HaveSent, HoldWhatWasSent, IsOfMachine, IsRangeAsleep, IsSplit, LowersWords, Sleeps};
+ghost use Rattle.shards.specs.Shards.{ChangesOnlyMail, HasShardRun, HasRangeRun, HasSent, HaveSent, HoldWhatWasSent, IsOfMachine, IsRangeAsleep, IsSplit, LowersWords, Sleeps};
 
 use crate::exchange::sort_by_shard;
 use links::flight::Links;
@@ -33,8 +33,9 @@ pub(crate) struct Shard {
 /// The least arrival of messages, or a cycle that comes sooner.
 fn first_arrival(messages: &[Message], cycle: Cycle) -> Cycle
     ensures within { result ≤ cycle }
-    ensures arrivals { NoneBefore result messages.now }
-    ensures since { (since : ℕ) → since ≤ cycle → NoneBefore since messages.now → since ≤ result }
+    ensures arrivals { NoneArrivesBefore result messages.now }
+    ensures since { (since : ℕ) → since ≤ cycle
+        → NoneArrivesBefore since messages.now → since ≤ result }
 {
     let mut first = cycle;
     for message in messages {
@@ -43,7 +44,7 @@ fn first_arrival(messages: &[Message], cycle: Cycle) -> Cycle
     first
 }
 
-/// Takes up messages to units at places from one on: lowers their words, and empties the list.
+/// Takes up messages to units at places from `first` on: lowers their words, and empties the list.
 fn take_up_list(
     machine: &Machine,
     first: usize,
@@ -63,7 +64,7 @@ fn take_up_list(
     Ok(())
 }
 
-/// Takes up messages to units at places from one on, list by list: lowers their words, and empties the lists.
+/// Takes up messages to units at places from `first` on, list by list: lowers their words, and empties the lists.
 fn take_up_all(
     machine: &Machine,
     first: usize,
@@ -100,7 +101,7 @@ fn go_all(
     ensures first { range.new.first ≡ range.old.first }
     ensures count { length range.new.units.items ≡ length range.old.units.items }
     ensures words { length range.new.words.items ≡ length range.old.words.items }
-    ensures gone { OnOk result (HasRangeGone machine.now now until range.new traffic.new.links) }
+    ensures has_run { OnOk result (HasRangeRun machine.now now until range.new traffic.new.links) }
     ensures sent { OnOk result (HaveSent machine.now now until range.old traffic.new.lists) }
 {
     let span = Span {
@@ -143,11 +144,13 @@ impl Shard {
         ensures bounds { self.new.bounds ≡ self.old.bounds }
         ensures first { self.new.range.first ≡ self.old.range.first }
         ensures count { length self.new.range.units.items ≡ length self.old.range.units.items }
-        ensures gone { OnOk result (HasGone (arc_value self.old.machine) now until self.new) }
+        ensures has_run { OnOk result (
+            HasShardRun (arc_value self.old.machine) now until self.new) }
         ensures sent { OnOk result (HasSent now until self.old self.new) }
         ensures since { IfOk result (λ wake. until ≤ wake) }
         ensures sleep { IfOk result (λ wake. All (λ word. wake ≤ word) self.new.range.words.items) }
-        ensures arrivals { IfOk result (λ wake. NoneBefore wake self.new.traffic.lists.sent.items) }
+        ensures arrivals { IfOk result (λ wake.
+            NoneArrivesBefore wake self.new.traffic.lists.sent.items) }
     {
         self.traffic.lists.sent.clear();
         go_all(

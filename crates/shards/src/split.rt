@@ -8,7 +8,7 @@ ghost use Rattle.units.specs.Runs.{links_at};
 ghost use Rattle.units.specs.Units.{unit_count};
 ghost use Rattle.shards.specs.Lists.{bound};
 ghost use Rattle.shards.specs.Phases.{sim_at};
-ghost use Rattle.shards.specs.Shards.{AreShards, HasJoined, IsShard, IsSplit, Sleeps, links_among};
+ghost use Rattle.shards.specs.Shards.{AreShards, AddsUnits, IsShard, IsSplit, Sleeps, links_among};
 ghost use Rattle.shards.specs.Standing.{AreAwake, AreBroughtUp, AreShardsAt, ComesNext, HoldsFlight, flight_first};
 
 use crate::shard::Shard;
@@ -33,8 +33,9 @@ fn share_of(units: usize, parts: usize, count: usize) -> usize
     (units.saturating_mul(parts) / count.max(1)).min(units)
 }
 
-/// The place before which the first `parts` of `count` shards lie: those of cores, and then those of channels. Half
-/// of them are of cores, fewer if there are not that many cores, and more if there are few channels.
+/// The place before which the first `parts` of `count` shards lie: shards of cores come first, and then shards of
+/// channels. Half of the shards are of cores, fewer if there are not that many cores, and more if there are few
+/// channels.
 fn place_before(config: &Config, parts: usize, count: usize) -> usize
     requires { parts ≤ count }
     ensures { result ≤ unit_count config.now }
@@ -51,8 +52,8 @@ fn place_before(config: &Config, parts: usize, count: usize) -> usize
 }
 
 /// Where each of `count` shards begins, and the number of units: a shard is of cores alone, or of channels alone (but
-/// one shard has all units), and is about as large as the next of its kind, so that those of channels, which have most
-/// to do, all have about the same amount to do.
+/// one shard has all units), and is about as large as the next of its kind, so that the shards of channels, which have
+/// most to do, all have about the same amount to do.
 pub(crate) fn bounds_for(
     alloc: Global,
     config: &Config,
@@ -73,7 +74,7 @@ pub(crate) fn bounds_for(
     Ok(bounds)
 }
 
-/// Whether a message goes to one of the units at places from one on and before another.
+/// Whether a message goes to one of the units at places from `first` up to `end`.
 fn goes_to(config: &Config, first: usize, end: usize, message: &Message) -> bool
     requires { end ≤ unit_count config.now }
     ensures { result ≡ goes_among config.now first end message.now }
@@ -84,7 +85,7 @@ fn goes_to(config: &Config, first: usize, end: usize, message: &Message) -> bool
     }
 }
 
-/// The messages that go to the units at places from one on and before another.
+/// The messages that go to the units at places from `first` up to `end`.
 fn messages_to(
     alloc: Global,
     config: &Config,
@@ -102,7 +103,7 @@ fn messages_to(
         .collect(alloc)
 }
 
-/// Links that hold the messages that go to the units at places from one on and before another.
+/// Links that hold the messages that go to the units at places from `first` up to `end`.
 fn links_to(
     alloc: Global,
     config: &Config,
@@ -118,7 +119,7 @@ fn links_to(
     Ok(links)
 }
 
-/// A machine at a cycle, with the messages that are then in flight.
+/// A machine at a cycle, with the messages that are then in flight, from which its shards are made.
 #[derive(Drop)]
 struct Snapshot {
     machine: Arc<Machine>,
@@ -228,7 +229,7 @@ pub(crate) fn shards_of(
 
 /// Where the shards of a machine stand.
 #[derive(Drop)]
-pub(crate) struct Standing {
+pub(crate) struct ShardLayout {
     pub machine: Arc<Machine>,
     /// The place where each shard begins, and the number of units.
     pub bounds: Vec<usize>,
@@ -239,7 +240,7 @@ pub(crate) struct Standing {
 /// links.
 fn join_shard(
     alloc: Global,
-    standing: &Standing,
+    standing: &ShardLayout,
     shard: Box<Shard>,
     parts: &mut Vec<UnitState>,
     links: &mut Links,
@@ -247,7 +248,7 @@ fn join_shard(
     requires asleep { ComesNext standing.now (length parts.old.items) shard.value }
     requires stand { AreBroughtUp standing.now parts.old.items }
     requires links { links.old ≡ flight_first standing.now (length parts.old.items) }
-    ensures count { OnOk result (HasJoined shard.value parts.old.items parts.new.items) }
+    ensures count { OnOk result (AddsUnits shard.value parts.old.items parts.new.items) }
     ensures stand { OnOk result (AreBroughtUp standing.now parts.new.items) }
     ensures links { OnOk result (links.new ≡ flight_first standing.now (length parts.new.items)) }
 {
@@ -265,7 +266,7 @@ fn join_shard(
 /// empty links.
 fn join_all(
     alloc: Global,
-    standing: &Standing,
+    standing: &ShardLayout,
     shards: Vec<Box<Shard>>,
     parts: &mut Vec<UnitState>,
     links: &mut Links,
@@ -288,7 +289,7 @@ fn join_all(
 /// The simulator that shards were split from, at the cycle where they stand.
 pub(crate) fn rejoined(
     alloc: Global,
-    standing: Standing,
+    standing: ShardLayout,
     shards: Vec<Box<Shard>>,
     phase: u64,
 ) -> Result<Sim, AllocError>
@@ -300,7 +301,7 @@ pub(crate) fn rejoined(
     let mut parts = Vec::with_capacity(alloc, count)?;
     let mut links = Links::start(alloc, &standing.machine.config)?;
     join_all(alloc, &standing, shards, &mut parts, &mut links)?;
-    let Standing { machine, at, .. } = standing;
+    let ShardLayout { machine, at, .. } = standing;
     Ok(Sim {
         machine,
         now: at,

@@ -19,7 +19,9 @@ use Rattle.show.specs.declared.options.Options.{Options}
 
 -- the lines above the banks of a channel, which say how many there are
 abbrev pub banks_head : ℕ → ℕ → List ℕ
-banks_head channel count = codes "\nBanks of channel " ++ decimal channel ++ codes " (" ++ decimal count ++ codes "): row hits in % of rd and wr\n"
+banks_head channel count =
+    codes "\nBanks of channel " ++ decimal channel
+    ++ codes " (" ++ decimal count ++ codes "): row hits in % of rd and wr\n"
 
 -- what stands before the numbers of a bank
 abbrev pub bank_label : BankId → List ℕ
@@ -31,11 +33,13 @@ bank_line counts = row_text bank_headings (bank_label counts.bank) (bank_row cou
 
 -- the banks of a channel that a command names, by rank, group and bank: how many there are, and a line for each
 unfoldable pub banks_text : ℕ → List BankCounts → List ℕ
-banks_text channel counts = banks_head channel (length counts) ++ headings_text (codes "bank") bank_headings ++ flat_map bank_line counts
+banks_text channel counts =
+    banks_head channel (length counts) ++ headings_text (codes "bank") bank_headings ++ flat_map bank_line counts
 
 -- the banks of the channels below a number, one channel after the other
 abbrev pub all_banks_text : List IssuedCommand → ℕ → List ℕ
-all_banks_text commands channels = flat_map (λ channel. banks_text channel (channel_counts channel commands)) (below channels)
+all_banks_text commands channels =
+    flat_map (λ channel. banks_text channel (channel_counts channel commands)) (below channels)
 
 -- the screen of a run, and below it the banks of each channel
 pub record IsBanksScreen (stats : RunStats) (commands : List IssuedCommand) (options : Options) (machine : Option Config) (text : List ℕ) : Type 0 where

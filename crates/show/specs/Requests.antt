@@ -17,11 +17,13 @@ use Rattle.show.specs.declared.options.Options.{Options}
 
 -- the lines above the read latencies, which say how many replies came
 abbrev pub latencies_head : ℕ → List ℕ
-latencies_head replies = codes "\nRead latency (" ++ decimal replies ++ codes " replies): cycles from issue to reply, by the nearest rank\n"
+latencies_head replies =
+    codes "\nRead latency (" ++ decimal replies ++ codes " replies): cycles from issue to reply, by the nearest rank\n"
 
 -- the lines above the waits, which say how many requests were served
 abbrev pub waits_head : ℕ → List ℕ
-waits_head requests = codes "\nQueues (" ++ decimal requests ++ codes " requests): mean cycles from arrival to RD or WR\n"
+waits_head requests =
+    codes "\nQueues (" ++ decimal requests ++ codes " requests): mean cycles from arrival to RD or WR\n"
 
 -- how many replies percentiles are of
 abbrev pub replies_of : Option Latencies → ℕ
@@ -52,13 +54,15 @@ pub record AreLatencyLines (requests : List RequestTimes) (options : Options) (c
 -- the table of waits: a line for each channel, or their summary
 abbrev pub AreWaitLines : List RequestTimes → Options → ℕ → List ℕ → Type 0
 AreWaitLines requests options channels text =
-    IsTable (codes "channel") (wait_headings options.khz) options.all (map (wait_row requests options.khz) (below channels)) text
+    IsTable (codes "channel") (wait_headings options.khz) options.all
+    (map (wait_row requests options.khz) (below channels)) text
 
 -- the read latencies of a run of so many cores and channels, below how many replies came, and the waits, below how many
 -- requests were served
 pub record AreRequests (requests : List RequestTimes) (options : Options) (cores channels : ℕ) (text : List ℕ) : Type 0 where
   pub latencies : List ℕ
   pub waits : List ℕ
-  pub latencies_are : IsBelow (latencies_head (length (read_latencies requests))) (AreLatencyLines requests options cores) latencies
+  pub latencies_are : IsBelow (latencies_head (length (read_latencies requests)))
+      (AreLatencyLines requests options cores) latencies
   pub waits_are : IsBelow (waits_head (length requests)) (AreWaitLines requests options channels) waits
   pub text_is : text ≡ latencies ++ waits

@@ -66,7 +66,8 @@ drain_of cycles None = absent
 -- the last two numbers of a channel, which are there with a configuration and with a clock: the cycles that its REFs
 -- take, nRFC each, and its data rate
 abbrev pub more_of_channel : ℕ → ChannelStats → Option Config → Option ℕ → Number × Number
-more_of_channel cycles channel (Some machine) khz = (percent (channel.refs * machine.timing.n_rfc) cycles, rate_by khz cycles channel)
+more_of_channel cycles channel (Some machine) khz =
+    (percent (channel.refs * machine.timing.n_rfc) cycles, rate_by khz cycles channel)
 more_of_channel cycles channel None khz = (rate_by khz cycles channel, absent)
 
 -- headings that are there where the clock is given
@@ -82,9 +83,12 @@ more_headings None khz = where_clocked khz (codes "GB/s" ∷ [])
 -- the numbers of a channel; the data bus is taken for four cycles by each RD and WR
 unfoldable pub channel_row : ℕ → Option Config → Option ℕ → ChannelStats → List Number
 channel_row cycles machine khz channel =
-    count channel.rd ∷ count channel.wr ∷ percent channel.hits (channel.rd + channel.wr) ∷ percent (4 * (channel.rd + channel.wr)) cycles
-    ∷ mean channel.queued cycles ∷ count channel.queued_max ∷ percent channel.idle cycles ∷ percent channel.refreshing cycles
-    ∷ drain_of cycles channel.draining ∷ (more_of_channel cycles channel machine khz).0 ∷ (more_of_channel cycles channel machine khz).1 ∷ absent ∷ absent ∷ []
+    count channel.rd ∷ count channel.wr ∷ percent channel.hits (channel.rd + channel.wr)
+    ∷ percent (4 * (channel.rd + channel.wr)) cycles
+    ∷ mean channel.queued cycles ∷ count channel.queued_max ∷ percent channel.idle cycles
+    ∷ percent channel.refreshing cycles
+    ∷ drain_of cycles channel.draining ∷ (more_of_channel cycles channel machine khz).0
+    ∷ (more_of_channel cycles channel machine khz).1 ∷ absent ∷ absent ∷ []
 
 -- the cycle in which the last entry of a core retired, and the entries a cycle up to that, where it has finished; more
 -- cycles than 2^64 - 1 count as that
@@ -100,8 +104,10 @@ finish_time khz None = absent
 -- the numbers of a core
 unfoldable pub core_row : ℕ → Option ℕ → CoreStats → List Number
 core_row cycles khz core =
-    count core.retired ∷ mean core.retired cycles ∷ (finish core.retired core.finish).0 ∷ (finish core.retired core.finish).1
-    ∷ count core.reads ∷ mean core.read_latency core.replies ∷ percent core.stop_end cycles ∷ percent core.stop_width cycles
+    count core.retired ∷ mean core.retired cycles ∷ (finish core.retired core.finish).0
+    ∷ (finish core.retired core.finish).1
+    ∷ count core.reads ∷ mean core.read_latency core.replies ∷ percent core.stop_end cycles
+    ∷ percent core.stop_width cycles
     ∷ percent core.stop_window cycles ∷ percent core.stop_memory cycles ∷ percent core.stop_credit cycles
     ∷ finish_time khz core.finish ∷ time_by khz core.read_latency core.replies ∷ []
 
@@ -109,7 +115,8 @@ core_row cycles khz core =
 unfoldable pub latency_row : Option ℕ → Option Latencies → List Number
 latency_row khz (Some found) =
     count found.replies ∷ count found.median ∷ count found.p95 ∷ count found.p99 ∷ count found.greatest
-    ∷ time_by khz found.median 1 ∷ time_by khz found.p95 1 ∷ time_by khz found.p99 1 ∷ time_by khz found.greatest 1 ∷ replicate 4 absent
+    ∷ time_by khz found.median 1 ∷ time_by khz found.p95 1 ∷ time_by khz found.p99 1 ∷ time_by khz found.greatest 1
+    ∷ replicate 4 absent
 latency_row khz None = count 0 ∷ replicate 12 absent
 
 -- how many requests of a class there are, and how long they waited on average
@@ -122,12 +129,15 @@ wait_time khz waits = time_by khz waits.cycles waits.requests
 -- the numbers of reads, of writes and of row hits
 abbrev pub row_of_waits : Option ℕ → Waits → Waits → Waits → List Number
 row_of_waits khz reads writes hits =
-    count reads.requests ∷ mean_wait reads ∷ count writes.requests ∷ mean_wait writes ∷ count hits.requests ∷ mean_wait hits
+    count reads.requests ∷ mean_wait reads ∷ count writes.requests ∷ mean_wait writes ∷ count hits.requests
+    ∷ mean_wait hits
     ∷ wait_time khz reads ∷ wait_time khz writes ∷ wait_time khz hits ∷ replicate 4 absent
 
 -- the waits of a channel
 unfoldable pub wait_row : List RequestTimes → Option ℕ → ℕ → List Number
-wait_row requests khz channel = row_of_waits khz (channel_waits Reads channel requests) (channel_waits Writes channel requests) (channel_waits Hits channel requests)
+wait_row requests khz channel =
+    row_of_waits khz (channel_waits Reads channel requests) (channel_waits Writes channel requests)
+    (channel_waits Hits channel requests)
 
 -- the numbers of a bank
 abbrev pub bank_row : BankCounts → List Number
@@ -143,13 +153,15 @@ time_text None cycles = []
 -- the headings of a channel's numbers
 abbrev pub channel_headings : Option Config → Option ℕ → List (List ℕ)
 channel_headings machine khz =
-    codes "rd" ∷ codes "wr" ∷ codes "hits %" ∷ codes "bus %" ∷ codes "queue mean" ∷ codes "queue max" ∷ codes "idle %" ∷ codes "refresh due %" ∷ codes "drain %"
+    codes "rd" ∷ codes "wr" ∷ codes "hits %" ∷ codes "bus %" ∷ codes "queue mean" ∷ codes "queue max" ∷ codes "idle %"
+    ∷ codes "refresh due %" ∷ codes "drain %"
     ∷ more_headings machine khz
 
 -- the headings of a core's numbers
 abbrev pub core_headings : Option ℕ → List (List ℕ)
 core_headings khz =
-    codes "retired" ∷ codes "per cycle" ∷ codes "finish" ∷ codes "by then" ∷ codes "reads" ∷ codes "latency" ∷ codes "end" ∷ codes "width"
+    codes "retired" ∷ codes "per cycle" ∷ codes "finish" ∷ codes "by then" ∷ codes "reads" ∷ codes "latency"
+    ∷ codes "end" ∷ codes "width"
     ∷ codes "window" ∷ codes "memory" ∷ codes "credit" ∷ where_clocked khz (codes "finish ns" ∷ codes "latency ns" ∷ [])
 
 -- the headings of read latencies

@@ -21,7 +21,8 @@ pub record IsBelow (head : List ℕ) (kind : List ℕ → Type 0) (text : List �
 -- the lines above the table of channels
 abbrev pub channels_head : ℕ → ℕ → List ℕ
 channels_head cycles count =
-    codes "cycles " ++ decimal cycles ++ codes "\n\nChannels (" ++ decimal count ++ codes "): row hits in % of rd and wr, all else in % of the cycles\n"
+    codes "cycles " ++ decimal cycles
+    ++ codes "\n\nChannels (" ++ decimal count ++ codes "): row hits in % of rd and wr, all else in % of the cycles\n"
 
 -- how many cores have finished: they retired the last entries of their traces
 abbrev pub finished : List CoreStats → ℕ
@@ -35,18 +36,21 @@ cores_head count finished =
 -- the table of channels
 abbrev pub AreChannels : RunStats → Options → Option Config → List ℕ → Type 0
 AreChannels stats options machine text =
-    IsTable (codes "channel") (channel_headings machine options.khz) options.all (map (channel_row stats.cycles machine options.khz) stats.channels) text
+    IsTable (codes "channel") (channel_headings machine options.khz) options.all
+    (map (channel_row stats.cycles machine options.khz) stats.channels) text
 
 -- the table of cores
 abbrev pub AreCores : RunStats → Options → List ℕ → Type 0
 AreCores stats options text =
-    IsTable (codes "core") (core_headings options.khz) options.all (map (core_row stats.cycles options.khz) stats.cores) text
+    IsTable (codes "core") (core_headings options.khz) options.all (map (core_row stats.cycles options.khz) stats.cores)
+    text
 
 -- the screen of a run: its cycles, its channels and its cores, and the time that the cycles take, where the clock is
 -- given
 pub record IsScreen (stats : RunStats) (options : Options) (machine : Option Config) (text : List ℕ) : Type 0 where
   pub channels : List ℕ
   pub cores : List ℕ
-  pub channels_are : IsBelow (channels_head stats.cycles (length stats.channels)) (AreChannels stats options machine) channels
+  pub channels_are : IsBelow (channels_head stats.cycles (length stats.channels)) (AreChannels stats options machine)
+      channels
   pub cores_are : IsBelow (cores_head (length stats.cores) (finished stats.cores)) (AreCores stats options) cores
   pub text_is : text ≡ channels ++ cores ++ time_text options.khz stats.cycles

@@ -49,9 +49,11 @@ pub record AreSummaries (rows : List (List Number)) (count : ℕ) (columns : Lis
 -- a row has one of the three numbers of each column
 abbrev pub IsRowAcross : List (List Number) → ℕ → List Number → Type 0
 IsRowAcross columns place row =
-    (column : ℕ) → column < 13 → slice_index_or row column absent ≡ slice_index_or (slice_index_or columns column []) place absent
+    (column : ℕ) → column < 13
+    → slice_index_or row column absent ≡ slice_index_or (slice_index_or columns column []) place absent
 
 -- three rows of thirteen numbers: in each column the least, the median and the greatest
 pub record IsSummary (rows summary : List (List Number)) : Type 0 where
   pub count : length summary ≡ 3
-  pub columns : (column : ℕ) → column < 13 → IsSummaryOf rows column (map (λ row. slice_index_or row column absent) summary)
+  pub columns : (column : ℕ) → column < 13
+      → IsSummaryOf rows column (map (λ row. slice_index_or row column absent) summary)

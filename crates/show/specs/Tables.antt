@@ -39,7 +39,8 @@ number_at headings row place = number_below (slice_get headings place) (slice_ge
 
 -- the line of a row: a number below each heading
 unfoldable pub row_text : List (List ℕ) → List ℕ → List Number → List ℕ
-row_text headings label row = flush_right 8 label ++ flat_map (number_at headings row) (below (length headings)) ++ codes "\n"
+row_text headings label row =
+    flush_right 8 label ++ flat_map (number_at headings row) (below (length headings)) ++ codes "\n"
 
 -- what stands before a row of a summary
 abbrev pub summary_label : ℕ → List ℕ
@@ -51,11 +52,13 @@ label_text false place = decimal place
 label_text true place = summary_label place
 
 abbrev pub line_text : List (List ℕ) → Bool → List (List Number) → ℕ → List ℕ
-line_text headings summarized rows place = row_text headings (label_text summarized place) (slice_index_or rows place [])
+line_text headings summarized rows place =
+    row_text headings (label_text summarized place) (slice_index_or rows place [])
 
 -- the headings, and a line for each row
 unfoldable pub lines_text : List ℕ → List (List ℕ) → Bool → List (List Number) → List ℕ
-lines_text label headings summarized rows = headings_text label headings ++ flat_map (line_text headings summarized rows) (below (length rows))
+lines_text label headings summarized rows =
+    headings_text label headings ++ flat_map (line_text headings summarized rows) (below (length rows))
 
 -- a table has a line for each row where there are at most sixteen, or where all are asked for
 abbrev pub shows_each : Bool → List (List Number) → Bool
@@ -65,7 +68,8 @@ shows_each all rows = nat_le (length rows) 16 || all
 -- one for each row of their summary
 pub record IsTable (label : List ℕ) (headings : List (List ℕ)) (all : Bool) (rows : List (List Number)) (text : List ℕ) : Type 0 where
   pub each : shows_each all rows ≡ true → text ≡ lines_text label headings false rows
-  pub three : shows_each all rows ≡ false → (summary : List (List Number)) × IsSummary rows summary × (text ≡ lines_text label headings true summary)
+  pub three : shows_each all rows ≡ false
+      → (summary : List (List Number)) × IsSummary rows summary × (text ≡ lines_text label headings true summary)
 
 -- what the headings of a layout say
 abbrev pub headings_of : TableLayout → List (List ℕ)

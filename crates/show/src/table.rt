@@ -2,7 +2,8 @@
 
 ghost use Rattle.std.specs.Prelude.{◌≡◌, List, ℕ, IfOk, string_bytes};
 ghost use Rattle.measures.specs.declared.number.Number.{Number};
-ghost use Rattle.measures.specs.Texts.{IsText, Puts, PutsWords};
+ghost use Rattle.measures.specs.Texts.{Puts, PutsWords};
+ghost use Rattle.sim_base.specs.Texts.{IsText};
 ghost use Rattle.show.specs.Tables.{width_of, column_text, headings_text, number_at, row_text, summary_label, label_text, lines_text, headings_of, IsTableOf};
 
 use crate::rows::{Row, summary_rows};
@@ -128,7 +129,8 @@ impl TableLayout<'_> {
     }
 
     fn put_lines(&self, alloc: Global, rows: &[Row], summarized: bool, out: &mut TextBuilder)
-        ensures { PutsWords (lines_text self.now.label.now (headings_of self.now) summarized rows.now)
+        ensures { PutsWords (lines_text self.now.label.now (headings_of self.now)
+            summarized rows.now)
             out.old out.new }
     {
         self.put_headings(out);

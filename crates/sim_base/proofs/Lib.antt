@@ -17,3 +17,5 @@ pub mod Cycles
 pub mod Ordered
 pub mod Grows
 pub mod SameValues
+pub mod Results
+pub mod Banks

@@ -80,6 +80,20 @@ slice_get-enumerate i (x ∷ xs) (suc k) =
     let e : i + 1 + k ≡ i + suc k = omega arith in
     slice_get-enumerate (i + 1) xs k ∙ ap (λ n. option_map (λ x. (n, x)) (slice_get xs k)) e
 
+-- an element among the first so many
+pub get-take : {X : Type 0} (xs : List X) (n k : ℕ) → k < n → slice_get (take n xs) k ≡ slice_get xs k
+get-take xs zero k l = absurd (omega (arith, l))
+get-take [] (suc n) k l = refl
+get-take (x ∷ xs) (suc n) zero l = refl
+get-take (x ∷ xs) (suc n) (suc k) l = get-take xs n k (omega (arith, l))
+
+-- where no element stands, none is left from there on
+pub drop-at_none : {X : Type 0} (xs : List X) (k : ℕ) → slice_get xs k ≡ None → drop k xs ≡ []
+drop-at_none [] zero e = refl
+drop-at_none [] (suc k) e = refl
+drop-at_none (x ∷ xs) zero e = cc
+drop-at_none (x ∷ xs) (suc k) e = drop-at_none xs k e
+
 -- one more of the first elements
 pub take_more : {X : Type 0} (xs : List X) (k : ℕ) → take (suc k) xs ≡ take k xs ++ option_to_list (slice_get xs k)
 take_more [] zero = refl
@@ -124,6 +138,11 @@ pub none-is : {X : Type 0} (o : Option X) → is_some o ≡ false → o ≡ None
 none-is None h = refl
 none-is (Some x) h = absurd (false≢true (sym h))
 
+-- an element where a test holds, and else a choice, gives none: the test fails, and the choice is none
+pub cond-none : {X : Type 0} (b : Bool) (x : X) (o : Option X) → cond b (Some x) o ≡ None → (b ≡ false) × (o ≡ None)
+cond-none true x o e = cc e
+cond-none false x o e = (refl, e)
+
 -- the order does not matter
 pub eqb-swap : (a b : ℕ) → eqb a b ≡ eqb b a
 eqb-swap a b = elim (cases_Bool (eqb a b)) [
@@ -152,3 +171,8 @@ with_items_lent v lent given is long = with_items_is v given (long ∙ ap length
 
 pub length-lent : {X Z : Type 0} (v : Vec X Z) (lent given : List X) → lent ≡ v.items → length given ≡ length lent → length (with_items v given).items ≡ length v.items
 length-lent v lent given is long = ap length (with_items_lent v lent given is long) ∙ long ∙ ap length is
+
+-- an element of a list that has some
+pub some-of : {X : Type 0} (xs : List X) → 0 < length xs → X
+some-of [] l = absurd (omega (arith, l))
+some-of (x ∷ xs) l = x

@@ -19,7 +19,8 @@ use Rattle.sim_base.specs.declared.trace.Entry.{Entry}
 
 -- the credits that a core holds for a channel: for reads, or for writes
 unfoldable pub credits_left : Config → ℕ → List Entry → List CoreStep → List Message → Access → ℕ → ℕ
-credits_left s core trace steps inbox access channel = held s core inbox (core_messages s core trace steps) channel access (length steps)
+credits_left s core trace steps inbox access channel =
+    held s core inbox (core_messages s core trace steps) channel access (length steps)
 
 -- the refreshes that are due, rank by rank
 unfoldable pub due_left : Config → ℕ → List (Option Command) → List ℕ

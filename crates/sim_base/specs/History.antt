@@ -2,14 +2,16 @@
 --     steps_of_core c history, steps_of_channel k history      what one unit did
 --     retired_before steps, issued_before steps      how many entries a core retired and issued
 --     issued_commands channel steps      the commands of a channel, each with its cycle
+--     commands_on channel table      those of some commands that are of a channel
+--     stands_before a b      the order of a table of commands: by cycle and then by channel
 --     commands history      the commands of all channels, by cycle and then by channel
 --     request, reply, credit      a message of each kind
 --     core_messages, channel_messages, messages      the messages that steps make, wherever they are by now
---     receiver s link      the unit that a link leads to
+--     receiver_of channels link, receiver s link      the unit that a link leads to
 --     by_age ms      messages in order of arrival, and then of link
 --     inbox s traces history unit      what was sent to a unit, by age
 use Rattle.std.specs.Prelude.{ℕ, not, insert, take_while, fold, ◌+◌, ◌-◌, length, sum_by, ◌/◌, ◌%◌, ◌==◌, nat_lt, Bool, false, ◌&&◌, ◌||◌, List, [], ◌∷◌, ◌++◌, map, filter, filter_map, flat_map, take, drop, slice_index_or, Option, Some, None, if◌then◌else◌}
-use Rattle.std.specs.List.{enumerate_from, range_with_len}
+use Rattle.std.specs.List.{cons_option, enumerate_from, range_with_len}
 use Rattle.sim_base.specs.declared.config.Config.{Config}
 use Rattle.sim_base.specs.Config.{request_link, reply_link, credit_link, latency}
 use Rattle.sim_base.specs.MachineStep.{MachineStep, step_of_core, step_of_channel}
@@ -45,9 +47,21 @@ abbrev pub issued_at : ℕ → ℕ → Option Command → Option IssuedCommand
 issued_at channel cycle None = None
 issued_at channel cycle (Some command) = Some (record { cycle = cycle; channel = channel; command = command })
 
+-- what a channel did in a cycle, as a list of one command with its cycle, or of none
+abbrev pub issued_now : ℕ → ℕ → Option Command → List IssuedCommand
+issued_now channel cycle o = cons_option (issued_at channel cycle o) []
+
 -- the commands of a channel, each with its cycle
 unfoldable pub issued_commands : ℕ → List (Option Command) → List IssuedCommand
 issued_commands channel steps = filter_map (λ e. issued_at channel e.0 e.1) (enumerate_from 0 steps)
+
+-- the commands of a channel, of a table of commands
+abbrev pub commands_on : ℕ → List IssuedCommand → List IssuedCommand
+commands_on channel table = filter (λ row. row.channel == channel) table
+
+-- a command is of an earlier cycle than another, or of the same and of a lower channel
+abbrev pub stands_before : IssuedCommand → IssuedCommand → Bool
+stands_before a b = nat_lt a.cycle b.cycle || ((a.cycle == b.cycle) && nat_lt a.channel b.channel)
 
 -- the commands of all channels in a cycle, by channel
 abbrev pub commands_in : ℕ → MachineStep → List IssuedCommand
@@ -90,7 +104,8 @@ requests_between s core trace cycle first end =
 
 -- the requests of a core in a cycle: those among the entries that it issued by the end of the cycle, and not before
 unfoldable pub requests_in : Config → ℕ → List Entry → List CoreStep → ℕ → List Message
-requests_in s core trace steps cycle = requests_between s core trace cycle (issued_before (take cycle steps)) (issued_before (take (cycle + 1) steps))
+requests_in s core trace steps cycle =
+    requests_between s core trace cycle (issued_before (take cycle steps)) (issued_before (take (cycle + 1) steps))
 
 -- the requests that a core sent
 unfoldable pub core_messages : Config → ℕ → List Entry → List CoreStep → List Message
@@ -110,7 +125,8 @@ credit s channel cycle access source =
 
 -- what a channel sends for a command that it issues in a cycle
 unfoldable pub messages_of : Config → ℕ → ℕ → Command → List Message
-messages_of s channel cycle (Rd bank row column source) = reply s channel cycle source ∷ credit s channel cycle access.Read source ∷ []
+messages_of s channel cycle (Rd bank row column source) =
+    reply s channel cycle source ∷ credit s channel cycle access.Read source ∷ []
 messages_of s channel cycle (Wr bank row column source) = credit s channel cycle access.Write source ∷ []
 messages_of s channel cycle (Act bank row source) = []
 messages_of s channel cycle (Pre bank source) = []
@@ -144,11 +160,17 @@ messages_of_channel s history channel = channel_messages s channel (steps_of_cha
 
 -- each message that was sent, wherever it is by now
 unfoldable pub messages : Config → List (List Entry) → List MachineStep → List Message
-messages s traces history = flat_map (messages_of_core s traces history) (below s.cores) ++ flat_map (messages_of_channel s history) (below s.channels)
+messages s traces history =
+    flat_map (messages_of_core s traces history) (below s.cores)
+    ++ flat_map (messages_of_channel s history) (below s.channels)
+
+-- the unit that a link leads to, in a machine with this many channels
+abbrev pub receiver_of : ℕ → ℕ → MachineUnit
+receiver_of channels link = if link % 3 == 0 then Channel (link / 3 % channels) else Core (link / 3 / channels)
 
 -- the unit that a link leads to
 abbrev pub receiver : Config → ℕ → MachineUnit
-receiver s link = if link % 3 == 0 then Channel (link / 3 % s.channels) else Core (link / 3 / s.channels)
+receiver s link = receiver_of s.channels link
 
 -- whether two units are equal
 abbrev pub is_unit : MachineUnit → MachineUnit → Bool

@@ -147,7 +147,7 @@ pub record LatenciesInRange (request reply credit : ℕ) : Type 0 where
 abbrev pub LatencyInRange : ℕ → Type 0
 LatencyInRange latency = AcceptedAt key.Latency latency
 
--- so may each of these
+-- the latency of each of these overrides may be a link's own
 abbrev pub OverridesInRange : List Override → Type 0
 OverridesInRange overrides = All (λ o. LatencyInRange o.latency) overrides
 
@@ -185,8 +185,10 @@ numbers_before_fields = key.Cores ∷ key.Channels ∷ key.Groups ∷ key.Ranks 
 -- the keys of numbers that are tested behind it
 abbrev pub numbers_behind_fields : List Key
 numbers_behind_fields =
-    key.Window ∷ key.Width ∷ key.ReadCredits ∷ key.WriteCredits ∷ key.RequestLatency ∷ key.ReplyLatency ∷ key.CreditLatency
-    ∷ key.NRcd ∷ key.NRp ∷ key.NRas ∷ key.NRc ∷ key.NCl ∷ key.NCwl ∷ key.NCcdS ∷ key.NCcdL ∷ key.NRrdS ∷ key.NRrdL ∷ key.NFaw
+    key.Window ∷ key.Width ∷ key.ReadCredits ∷ key.WriteCredits ∷ key.RequestLatency ∷ key.ReplyLatency
+    ∷ key.CreditLatency
+    ∷ key.NRcd ∷ key.NRp ∷ key.NRas ∷ key.NRc ∷ key.NCl ∷ key.NCwl ∷ key.NCcdS ∷ key.NCcdL ∷ key.NRrdS ∷ key.NRrdL
+    ∷ key.NFaw
     ∷ key.NRtp ∷ key.NWr ∷ key.NWtrS ∷ key.NWtrL ∷ key.NRtw ∷ key.NRfc ∷ key.NRtrs ∷ key.NRefi ∷ key.WriteHigh
     ∷ key.WriteLow ∷ []
 

@@ -4,6 +4,7 @@ pub mod Relations
 pub mod Config
 pub mod Values
 pub mod Places
+pub mod Earlier
 pub mod Access
 pub mod MachineStep
 pub mod History
@@ -19,3 +20,4 @@ pub mod Faults
 pub mod PlaceRange
 pub mod TraceText
 pub mod TraceGrammar
+pub mod Texts

@@ -2,8 +2,9 @@
 --     field_of s address field      the value of a field in an address
 --     place_of s address      where an address lies
 --     bank_in place      the bank of a place
+--     number_of_bank bank, bank_at number      the number of a bank, and the bank with a number
 --     is_bank a b, is_line a b      the same bank, and the same line
-use Rattle.std.specs.Prelude.{ℕ, ◌/◌, ◌%◌, ◌==◌, Bool, ◌&&◌, List, [], ◌∷◌, if◌then◌else◌}
+use Rattle.std.specs.Prelude.{ℕ, ◌+◌, ◌*◌, ◌/◌, ◌%◌, ◌==◌, Bool, ◌&&◌, List, [], ◌∷◌, if◌then◌else◌}
 use Rattle.sim_base.specs.declared.config.Config.{Config}
 use Rattle.sim_base.specs.Fields.{is_field}
 use Rattle.sim_base.specs.declared.place.Field.{Field}
@@ -24,7 +25,8 @@ field_size s Row = s.rows
 -- them
 unfoldable pub digit_of : Config → Field → List Field → ℕ → ℕ
 digit_of s field [] x = 0
-digit_of s field (f ∷ fs) x = if is_field field f then x % field_size s field else digit_of s field fs (x / field_size s f)
+digit_of s field (f ∷ fs) x =
+    if is_field field f then x % field_size s field else digit_of s field fs (x / field_size s f)
 
 -- the value of a field in an address, whose low six bits lie within the line
 unfoldable pub field_of : Config → ℕ → Field → ℕ
@@ -49,6 +51,14 @@ is_bank a b = (a.rank == b.rank) && (a.group == b.group) && (a.bank == b.bank)
 -- the bank of a place
 abbrev pub bank_in : Place → BankId
 bank_in place = record { rank = place.rank; group = place.group; bank = place.bank }
+
+-- the number of a bank among those of all ranks, each of which has places for four groups of four banks
+abbrev pub number_of_bank : BankId → ℕ
+number_of_bank bank = (bank.rank * 4 + bank.group) * 4 + bank.bank
+
+-- the bank with a number
+abbrev pub bank_at : ℕ → BankId
+bank_at number = record { rank = number / 16; group = number / 4 % 4; bank = number % 4 }
 
 -- whether two places are of one line: each field is equal
 abbrev pub is_line : Place → Place → Bool

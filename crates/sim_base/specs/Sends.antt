@@ -28,4 +28,6 @@ channel_sends s history step channel = messages_at s channel (length history) (s
 
 -- what is sent in that cycle
 unfoldable pub sends : Config → List (List Entry) → List MachineStep → MachineStep → List Message
-sends s traces history step = flat_map (core_sends s traces history step) (below s.cores) ++ flat_map (channel_sends s history step) (below s.channels)
+sends s traces history step =
+    flat_map (core_sends s traces history step) (below s.cores)
+    ++ flat_map (channel_sends s history step) (below s.channels)

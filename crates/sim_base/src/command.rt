@@ -79,7 +79,7 @@ impl Command {
     ghost use Rattle.std.specs.Prelude.{◌≡◌};
     ghost use Rattle.sim_base.specs.Counts.{source_in};
     ghost use Rattle.sim_base.specs.Rules.{kind_of, bank_of, rank_of, row_after};
-    ghost use Rattle.sim_base.specs.Scheduling.{is_column_command};
+    ghost use Rattle.sim_base.specs.Scheduling.{is_column_command, refreshes};
 
     /// The kind of the command.
     pub fn kind(self) -> Kind
@@ -140,6 +140,13 @@ impl Command {
         ensures { result ≡ is_column_command self }
     {
         matches!(self.kind(), Kind::Rd | Kind::Wr)
+    }
+
+    /// Whether it is a REF of a rank.
+    pub fn is_refresh_of(self, rank: u32) -> bool
+        ensures { result ≡ refreshes rank self }
+    {
+        self.kind().is_kind(Kind::Ref) && self.rank() == rank
     }
 
     /// The row that is open in a bank after it, given the row that was open before.

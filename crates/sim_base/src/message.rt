@@ -1,5 +1,8 @@
 //! What travels on the links between cores and channels.
 
+ghost use Rattle.std.specs.Prelude.{◌≡◌};
+ghost use Rattle.sim_base.specs.Earlier.{earlier};
+
 use crate::command::{Command, Source};
 use crate::place::Place;
 use std::fmt;
@@ -16,6 +19,18 @@ pub type LinkId = u64;
 
 /// A clock cycle, counted from 0.
 pub type Cycle = u64;
+
+/// The earlier of two cycles; if there is only one of them, that one.
+#[inline(always)]
+pub fn earlier(first: Option<Cycle>, second: Option<Cycle>) -> Option<Cycle>
+    ensures { result ≡ earlier first second }
+{
+    match (first, second) {
+        (Some(a), Some(b)) => Some(a.min(b)),
+        (None, _) => second,
+        (_, None) => first,
+    }
+}
 
 /// A core or a channel.
 #[derive(Clone, Copy, PartialEq, Eq)]
@@ -143,6 +158,21 @@ pub enum Payload {
     Request(Request),
     Reply(u64),
     Credit { access: Access, entry: u64 },
+}
+
+impl Payload {
+    ghost use Rattle.std.specs.Prelude.{◌≡◌};
+    ghost use Rattle.sim_base.specs.Scheduling.{entry_in};
+
+    /// The entry that the message is about.
+    pub fn entry(self) -> u64
+        ensures { result ≡ entry_in self }
+    {
+        match self {
+            Payload::Request(request) => request.entry,
+            Payload::Reply(entry) | Payload::Credit { entry, .. } => entry,
+        }
+    }
 }
 
 /// A message in flight.

@@ -14,17 +14,13 @@ use Rattle.simulation.specs.Runs.{traces_of}
 use Rattle.simulation.specs.Traces.{text_of, len_to_read, bytes_to_read, trace_in, IsTraceFor}
 use Rattle.simulation.specs.declared.input.CoreTrace.{CoreTrace}
 use Rattle.simulation.specs.declared.input.CoreTrace.TheVariants.{Own, SharedWith}
+use Rattle.config_reader.proofs.TableViews.{prepend}
 
 -- each of these traces is what the text of its core means
 abbrev pub AreRead : List (List ℕ) → List (List Entry) → Type 0
 AreRead texts traces =
     (k : ℕ) (text : List ℕ) (trace : List Entry) → k < length traces
     → trace_answer k (get_or texts k text) ≡ Ok (get_or traces k trace)
-
--- the traces so far, and then those of the rest
-abbrev pub prepend : List (List Entry) → Result (List (List Entry)) Fault → Result (List (List Entry)) Fault
-prepend xs (Ok ys) = Ok (xs ++ ys)
-prepend xs (Err e) = Err e
 
 -- the texts from a number on
 abbrev pub texts_from : List (Bor (List ℕ)) → ℕ → List (List ℕ)

@@ -1,6 +1,6 @@
 -- What a user may rely on in the outcome of a run.
 --     HoldsUnder config law outcome      a law holds of an outcome, under the configuration that the document states
---     HoldsUnderRead machine options law outcome      so it does, whatever bytes these were read from
+--     HoldsUnderRead machine options law outcome      a law holds of an outcome, whatever bytes were read
 use Rattle.std.specs.Prelude.{◌≡◌, ℕ, List, Ok}
 use Rattle.simulation.specs.Runs.{HoldsOfInput}
 use Rattle.sim_base.specs.declared.config.Config.{Config}
@@ -16,7 +16,8 @@ pub record HoldsUnder (config : List ℕ) (law : Config → RunOutcome → Type 
   pub configured : document_of config ≡ Ok (values_of machine)
   pub holds : law machine outcome
 
--- so it does, whatever bytes a machine and its traces were read from
+-- a law holds of an outcome under the configuration, whatever bytes a machine and its traces were read from
 abbrev pub HoldsUnderRead : MachineInput → RunOptions → (Config → RunOutcome → Type 0) → RunOutcome → Type 0
 HoldsUnderRead machine options law outcome =
-    HoldsOfInput options.cycles options.workers.count machine.config.now machine.traces.items (λ config texts. HoldsUnder config law) outcome
+    HoldsOfInput options.cycles options.workers.count machine.config.now machine.traces.items
+    (λ config texts. HoldsUnder config law) outcome

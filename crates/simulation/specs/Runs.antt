@@ -1,8 +1,6 @@
 -- What a run over the bytes of a configuration and of traces gives, and why it is refused.
---     texts_in texts      what stands in texts
---     IsTextOf texts text core      the text of a core
 --     traces_of core texts      the entries of traces, of which the first is that of this core
---     limits_of cores texts cycles workers      whether there is one trace per core, and so on
+--     limits_of cores texts cycles workers      one trace per core, and workers and cycles in range, or the fault
 --     input_of config texts cycles workers      the entries of all traces, or the first fault of a run's input
 --     IsTraceFault core text fault, IsTracesFault texts fault      why a trace, or one of them, is refused
 --     IsInputFault config texts cycles workers fault      why input is refused, where it is not for memory
@@ -11,15 +9,14 @@
 --     HoldsOfInput cycles workers machine traces law outcome      a law holds of whatever bytes these were read from
 --     IsRefusal config texts cycles workers fault      why a run with these workers is refused
 --     IsRunOf config texts cycles workers tables outcome      what the one-clock machine did and left
---     HoldsOfRun config texts cycles workers tables law outcome      the same, and a law holds of the run
---     IsRunOfInput machine options outcome      so it is, whatever these were read from
---     IsJudgedOfInput machine options outcome      it is then judged legal
---     HoldsOfRead machine options law outcome      a law then holds of the run
+--     HoldsOfRun config texts cycles workers tables law outcome      the outcome is that of a run, of which a law holds
+--     IsRunOfInput machine options outcome      the outcome is that of a run, whatever bytes the input was read from
+--     IsJudgedOfInput machine options outcome      the run of an input is judged legal, whatever bytes it was read from
+--     HoldsOfRead machine options law outcome      a law holds of the run of an input, whatever bytes it was read from
 --     IsLegalRun s traces n      `check` finds the table of the commands of a run legal
---     IsJudgedLegal config texts cycles workers tables outcome      it finds that of this run legal
---     IsRun, IsLegal, Keeps law, IsRefused      the same of an input with its options
-use Rattle.std.specs.Prelude.{◌≡◌, ◌≢◌, ◌⊎◌, ℕ, ◌+◌, ◌≤◌, ◌==◌, nat_le, Bool, ◌&&◌, List, [], ◌∷◌, length, map, slice_index_or, Result, Ok, Err, IsOk, if◌then◌else◌}
-use Rattle.std.specs.Borrow.{Bor}
+--     IsJudgedLegal config texts cycles workers tables outcome      `check` finds the commands of this run legal
+--     IsRun, IsLegal, Keeps law, IsRefused      the run, its verdict, a law and a refusal, of an input with its options
+use Rattle.std.specs.Prelude.{◌≡◌, ◌≢◌, ◌⊎◌, ℕ, ◌+◌, ◌≤◌, ◌==◌, nat_le, Bool, ◌&&◌, List, [], ◌∷◌, length, Result, Ok, Err, IsOk, if◌then◌else◌}
 use Rattle.sim_base.specs.declared.config.Config.{Config}
 use Rattle.sim_base.specs.declared.fault.Fault.{Fault}
 use Rattle.sim_base.specs.declared.fault.Fault.TheVariants.{TraceCount, Workers, Cycles, Memory, WorkerStart}
@@ -38,10 +35,7 @@ use Rattle.simulation.specs.declared.options.RunOptions.{RunOptions}
 use Rattle.reports.specs.Commands.{commands_text}
 use Rattle.rule_check.specs.Verdict.{records_of, verdict}
 use Rattle.rule_check.specs.declared.verdict.Verdict.TheVariants.{Legal}
-
--- what stands in texts
-abbrev pub texts_in : List (Bor (List ℕ)) → List (List ℕ)
-texts_in texts = map (λ text. text.now) texts
+use Rattle.sim_base.specs.Texts.{texts_of}
 
 -- a fault, where a test is not passed
 abbrev pub unless : Bool → Fault → Result (Unit {0}) Fault
@@ -70,10 +64,6 @@ input_of config texts cycles workers = do
   _ ← limits_of values.cores (length texts) cycles workers
   traces_of 0 texts
 
--- the text of a core is this one
-abbrev pub IsTextOf : List (Bor (List ℕ)) → Bor (List ℕ) → ℕ → Type 0
-IsTextOf texts text core = (slice_index_or texts core text).now ≡ text.now
-
 -- a trace is refused, if not for memory, for the first fault that its text has as that of this core
 abbrev pub IsTraceFault : ℕ → List ℕ → Fault → Type 0
 IsTraceFault core text fault = fault ≢ Memory → trace_answer core text ≡ Err fault
@@ -97,9 +87,11 @@ pub record IsInput (config : List ℕ) (texts : List (List ℕ)) (cycles workers
   pub read : input_of config texts cycles workers ≡ Ok traces
 
 -- whatever bytes a machine and its traces were read from, a law holds of these and an outcome
-abbrev pub HoldsOfInput : ℕ → ℕ → Config → List (List Entry) → (List ℕ → List (List ℕ) → RunOutcome → Type 0) → RunOutcome → Type 0
+abbrev pub HoldsOfInput : ℕ → ℕ → Config → List (List Entry) → (List ℕ → List (List ℕ) → RunOutcome → Type 0)
+    → RunOutcome → Type 0
 HoldsOfInput cycles workers machine traces law outcome =
-    (config : List ℕ) (texts : List (List ℕ)) → IsInput config texts cycles workers machine traces → law config texts outcome
+    (config : List ℕ) (texts : List (List ℕ)) → IsInput config texts cycles workers machine traces
+    → law config texts outcome
 
 -- Memory was refused; or this is the first fault of the input; or the input has none, and one of several workers was
 -- not started.
@@ -132,7 +124,8 @@ IsLegalRun s traces n = verdict s (records_of (commands_text s.ranks (commands (
 -- Under the configuration that the document states, `check` finds the text of the table of the commands of the run
 -- legal.
 abbrev pub IsJudgedLegal : List ℕ → List (List ℕ) → ℕ → ℕ → Tables → RunOutcome → Type 0
-IsJudgedLegal config texts cycles workers tables outcome = HoldsOfRun config texts cycles workers tables IsLegalRun outcome
+IsJudgedLegal config texts cycles workers tables outcome =
+    HoldsOfRun config texts cycles workers tables IsLegalRun outcome
 
 -- Whatever bytes a machine and its traces were read from, the outcome is that of a run over these bytes.
 abbrev pub IsRunOfInput : MachineInput → RunOptions → RunOutcome → Type 0
@@ -140,13 +133,14 @@ IsRunOfInput machine options outcome =
     HoldsOfInput options.cycles options.workers.count machine.config.now machine.traces.items
     (λ config texts. IsRunOf config texts options.cycles options.workers.count options.tables) outcome
 
--- so `check` finds the table of its commands legal
+-- whatever bytes a machine and its traces were read from, `check` finds the table of the run's commands legal
 abbrev pub IsJudgedOfInput : MachineInput → RunOptions → RunOutcome → Type 0
 IsJudgedOfInput machine options outcome =
     HoldsOfInput options.cycles options.workers.count machine.config.now machine.traces.items
     (λ config texts. IsJudgedLegal config texts options.cycles options.workers.count options.tables) outcome
 
--- and a law holds of the run
+-- whatever bytes a machine and its traces were read from, a law holds of the machine, the traces and the cycles of the
+-- run
 abbrev pub HoldsOfRead : MachineInput → RunOptions → (Config → List (List Entry) → ℕ → Type 0) → RunOutcome → Type 0
 HoldsOfRead machine options law outcome =
     HoldsOfInput options.cycles options.workers.count machine.config.now machine.traces.items
@@ -155,19 +149,21 @@ HoldsOfRead machine options law outcome =
 -- the outcome is that of a run of an input with these options: what the one-clock machine did and left
 abbrev pub IsRun : InputTexts → RunOptions → RunOutcome → Type 0
 IsRun input options outcome =
-    IsRunOf input.config.now (texts_in input.traces.now) options.cycles options.workers.count options.tables outcome
+    IsRunOf input.config.now (texts_of input.traces.now) options.cycles options.workers.count options.tables outcome
 
--- `check` finds the table of its commands legal
+-- `check` finds the table of the commands of a run of an input legal
 abbrev pub IsLegal : InputTexts → RunOptions → RunOutcome → Type 0
 IsLegal input options outcome =
-    IsJudgedLegal input.config.now (texts_in input.traces.now) options.cycles options.workers.count options.tables outcome
+    IsJudgedLegal input.config.now (texts_of input.traces.now) options.cycles options.workers.count options.tables
+    outcome
 
--- a law holds of its machine, its traces and its cycles
+-- a law holds of the machine, the traces and the cycles of a run of an input
 abbrev pub Keeps : InputTexts → RunOptions → (Config → List (List Entry) → ℕ → Type 0) → RunOutcome → Type 0
 Keeps input options law outcome =
-    HoldsOfRun input.config.now (texts_in input.traces.now) options.cycles options.workers.count options.tables law outcome
+    HoldsOfRun input.config.now (texts_of input.traces.now) options.cycles options.workers.count options.tables law
+    outcome
 
 -- why a run of an input with these options is refused
 abbrev pub IsRefused : InputTexts → RunOptions → Fault → Type 0
 IsRefused input options fault =
-    IsRefusal input.config.now (texts_in input.traces.now) options.cycles options.workers.count fault
+    IsRefusal input.config.now (texts_of input.traces.now) options.cycles options.workers.count fault

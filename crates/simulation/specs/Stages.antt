@@ -12,7 +12,8 @@ use Rattle.simulation.specs.declared.watch.Stage.{Stage}
 abbrev pub retired_by : Machine → ℕ → ℕ
 retired_by machine now = sum_by (λ core. core.retired) (stats_at machine now).cores
 
--- whether the machine stops when all is done, and how many entries its traces have
+-- How far a run can go, as a watcher is told: whether the machine stops when all is done, and how many entries its
+-- traces have.
 pub record IsExtentOf (machine : Machine) (extent : RunExtent) : Type 0 where
   pub end_is : extent.ends_drained ≡ machine.config.ends_drained
   pub entries_are : extent.entries ≡ sum_by length machine.traces.items

@@ -18,9 +18,9 @@ pub trait Gate {
 
 /// The gate that does nothing.
 #[derive(Clone, Copy)]
-pub struct Open;
+pub struct OpenGate;
 
-impl Gate for Open {
+impl Gate for OpenGate {
     fn enter(&self, _worker: usize, _job: JobName) {}
 
     fn leave(&self, _worker: usize, _job: JobName) {}

@@ -4,8 +4,9 @@ ghost use Rattle.std.specs.Prelude.{◌≡◌, ◌≤◌, ◌<◌, ◌^◌, ◌=
 ghost use Rattle.std.specs.List.{AllZip, range_with_len};
 ghost use Rattle.config_reader.specs.Document.{document_of};
 ghost use Rattle.sim_base.specs.Values.{values_of};
-ghost use Rattle.simulation.specs.Runs.{unless, limits_of, texts_in, traces_of, IsTextOf, IsTraceFault, IsTracesFault, IsInputFault, PassesTests};
-ghost use Rattle.simulation.specs.Traces.{text_of, len_to_read, bytes_to_read, trace_in, AreSources, IsTraceFor, IsFound, IsBefore};
+ghost use Rattle.simulation.specs.Runs.{unless, limits_of, traces_of, IsTraceFault, IsTracesFault, IsInputFault, PassesTests};
+ghost use Rattle.sim_base.specs.Texts.{IsTextAt, texts_of};
+ghost use Rattle.simulation.specs.Traces.{text_of, len_to_read, bytes_to_read, trace_in, AreTwins, IsTraceFor, IsFound, IsBefore};
 
 use config_reader::read_config;
 use cpu_trace::reader::read_trace;
@@ -30,7 +31,7 @@ pub struct InputTexts<'a> {
     pub traces: &'a [&'a [u8]],
 }
 
-// One trace per core.
+/// One trace per core.
 fn check_count(cores: u16, texts: usize) -> Result<(), Fault>
     ensures { result ≡ unless (texts == cores) Fault.TraceCount }
 {
@@ -70,10 +71,10 @@ fn check_limits(cores: u16, texts: usize, cycles: Cycle, workers: u64) -> Result
     check_cycles(cycles)
 }
 
-// A core before this one that is given the same text.
+/// A core before this one that is given the same text.
 fn earlier(texts: &[&[u8]], core: usize, text: &[u8]) -> Option<usize>
     ensures before { IfSome result (λ first. first < core) }
-    ensures same { IfSome result (IsTextOf texts.now text.entry) }
+    ensures same { IfSome result (IsTextAt texts.now text.entry) }
 {
     for first in 0..core.min(texts.len()) {
         if texts[first] == text {
@@ -83,10 +84,10 @@ fn earlier(texts: &[&[u8]], core: usize, text: &[u8]) -> Option<usize>
     None
 }
 
-// For each core an earlier one that is given the same text, its source, if there is one.
-fn find_sources(alloc: Global, texts: &[&[u8]]) -> Result<Vec<Option<usize>>, AllocError>
+/// For each core an earlier one that is given the same text, its source, if there is one.
+fn find_twins(alloc: Global, texts: &[&[u8]]) -> Result<Vec<Option<usize>>, AllocError>
     ensures count { IfOk result (λ sources. length sources.items ≡ length texts.now) }
-    ensures sources { IfOk result (λ sources. AreSources (texts_in texts.now) sources.items) }
+    ensures sources { IfOk result (λ sources. AreTwins (texts_of texts.now) sources.items) }
 {
     let mut sources: Vec<Option<usize>> = Vec::new(alloc);
     for text in texts {
@@ -96,7 +97,7 @@ fn find_sources(alloc: Global, texts: &[&[u8]]) -> Result<Vec<Option<usize>>, Al
     Ok(sources)
 }
 
-// How many bytes of a core's text are read: all, or none if the core has a source.
+/// How many bytes of a core's text are read: all, or none if the core has a source.
 fn len_to_read(text: &[u8], source: Option<usize>) -> usize
     ensures { result ≡ len_to_read text.now source }
 {
@@ -106,13 +107,13 @@ fn len_to_read(text: &[u8], source: Option<usize>) -> usize
     }
 }
 
-// More bytes than this are worth several threads.
+/// More bytes than this are worth several threads.
 const FEW_BYTES: usize = 1 << 18;
 
-// Whether more than `FEW_BYTES` bytes of texts are read.
+/// Whether more than `FEW_BYTES` bytes of texts are read.
 fn are_long(texts: &[&[u8]], sources: &[Option<usize>]) -> bool
     requires { length sources.now ≡ length texts.now }
-    ensures { IsTrue result ↔ (2 ^ 18 < bytes_to_read (texts_in texts.now) sources.now) }
+    ensures { IsTrue result ↔ (2 ^ 18 < bytes_to_read (texts_of texts.now) sources.now) }
 {
     let mut left = FEW_BYTES;
     for core in 0..texts.len() {
@@ -125,14 +126,14 @@ fn are_long(texts: &[&[u8]], sources: &[Option<usize>]) -> bool
     false
 }
 
-// The trace of a core: one of its own, or that of its source.
+/// The trace of a core: its own, or the trace of its source.
 #[derive(Drop)]
 enum CoreTrace {
     Own(Trace),
     SharedWith(usize),
 }
 
-// The trace of a core, for which no other trace has to be read.
+/// The trace of a core, for which no other trace has to be read.
 fn find_trace<R: Threads + Sync>(
     rt: &R,
     alloc: Global,
@@ -142,9 +143,9 @@ fn find_trace<R: Threads + Sync>(
 ) -> Result<CoreTrace, Fault>
     requires core { (core < length texts.now) × (core < length sources.now) }
     requires few { length texts.now ≤ 256 }
-    requires sources { AreSources (texts_in texts.now) sources.now }
-    ensures found { IfOk result (IsTraceFor (texts_in texts.now) core) }
-    ensures refused { IfErr result (IsTraceFault core (text_of (texts_in texts.now) core)) }
+    requires sources { AreTwins (texts_of texts.now) sources.now }
+    ensures found { IfOk result (IsTraceFor (texts_of texts.now) core) }
+    ensures refused { IfErr result (IsTraceFault core (text_of (texts_of texts.now) core)) }
 {
     match sources[core] {
         Some(first) => Ok(CoreTrace::SharedWith(first)),
@@ -155,7 +156,7 @@ fn find_trace<R: Threads + Sync>(
     }
 }
 
-// The traces of all cores, by core. If many bytes are read, then in as many threads as there are processors.
+/// The traces of all cores, by core. If many bytes are read, then in as many threads as there are processors.
 fn find_traces<R: Threads + Sync>(
     rt: &R,
     alloc: Global,
@@ -164,8 +165,8 @@ fn find_traces<R: Threads + Sync>(
 ) -> Result<Vec<Result<CoreTrace, Fault>>, AllocError>
     requires few { length texts.now ≤ 256 }
     requires count { length sources.now ≡ length texts.now }
-    requires sources { AreSources (texts_in texts.now) sources.now }
-    ensures { IfOk result (λ found. AllZip (IsFound (texts_in texts.now))
+    requires sources { AreTwins (texts_of texts.now) sources.now }
+    ensures { IfOk result (λ found. AllZip (IsFound (texts_of texts.now))
         (range_with_len 0 (length texts.now)) found.items) }
 {
     let least = if are_long(texts, sources) {
@@ -179,14 +180,14 @@ fn find_traces<R: Threads + Sync>(
         .map(
             |core: usize| -> Result<CoreTrace, Fault>
                 requires { (core < length texts.now) × (core < length sources.now)
-                    × (length texts.now ≤ 256) × AreSources (texts_in texts.now) sources.now }
-                ensures { IsFound (texts_in texts.entry.now) core result }
+                    × (length texts.now ≤ 256) × AreTwins (texts_of texts.now) sources.now }
+                ensures { IsFound (texts_of texts.entry.now) core result }
             { find_trace(rt, alloc, texts, sources, core) },
         )
         .collect(rt, alloc)
 }
 
-// The trace that was found for the next core, where these are those of the cores before it.
+/// The trace that was found for the next core, where `traces` are the traces of the cores before it.
 fn next_trace(traces: &[Trace], found: CoreTrace) -> Result<Trace, AllocError>
     requires { IsBefore (length traces.now) found }
     ensures { IfOk result (λ trace. trace ≡ trace_in traces.now found) }
@@ -197,18 +198,18 @@ fn next_trace(traces: &[Trace], found: CoreTrace) -> Result<Trace, AllocError>
     }
 }
 
-// The traces of the cores, in their order.
+/// The traces of the cores, in their order.
 fn read_traces<R: Threads + Sync>(
     rt: &R,
     alloc: Global,
     texts: &[&[u8]],
 ) -> Result<Vec<Trace>, Fault>
     requires { length texts.now ≤ 256 }
-    ensures ok { IfOk result (λ v. traces_of 0 (texts_in texts.now) ≡ Ok v.items) }
+    ensures ok { IfOk result (λ v. traces_of 0 (texts_of texts.now) ≡ Ok v.items) }
     ensures count { IfOk result (λ v. vec_len v ≡ length texts.now) }
-    ensures refused { IfErr result (IsTracesFault (texts_in texts.now)) }
+    ensures refused { IfErr result (IsTracesFault (texts_of texts.now)) }
 {
-    let sources = find_sources(alloc, texts)?;
+    let sources = find_twins(alloc, texts)?;
     let mut traces: Vec<Trace> = Vec::new(alloc);
     for found in find_traces(rt, alloc, texts, &sources)? {
         let found = match found {
@@ -235,15 +236,18 @@ pub fn read_input<R: Threads + Sync>(
     cycles: Cycle,
     workers: u64,
 ) -> Result<(Config, Vec<Trace>), Fault>
-    ensures configured { IfOk result (λ r. document_of input.entry.config.now ≡ Ok (values_of r.0)) }
-    ensures traces { IfOk result (λ r. traces_of 0 (texts_in input.entry.traces.now) ≡ Ok r.1.items) }
+    ensures configured { IfOk result (λ r.
+        document_of input.entry.config.now ≡ Ok (values_of r.0)) }
+    ensures traces { IfOk result (λ r.
+        traces_of 0 (texts_of input.entry.traces.now) ≡ Ok r.1.items) }
     ensures input { IfOk result
-        (λ r. PassesTests input.entry.config.now (texts_in input.entry.traces.now) cycles workers r.1.items) }
+        (λ r. PassesTests input.entry.config.now (texts_of input.entry.traces.now)
+        cycles workers r.1.items) }
     ensures count { IfOk result (λ r. vec_len r.1 ≡ r.0.cores) }
     ensures workers { IfOk result (λ _. (1 ≤ workers) × (workers ≤ 64)) }
     ensures cycles { IfOk result (λ _. cycles ≤ 10 ^ 12) }
     ensures refused { IfErr result
-        (IsInputFault input.entry.config.now (texts_in input.entry.traces.now) cycles workers) }
+        (IsInputFault input.entry.config.now (texts_of input.entry.traces.now) cycles workers) }
 {
     let config = match read_config(alloc, input.config) {
         Ok(config) => config,

@@ -14,7 +14,7 @@ use crate::runner::{ByCrew, Runner};
 use crate::sharing::{Sharing, Workers};
 use crate::watch::{RunExtent, Watch, WatchState, entries_of, interval_end};
 use crew::caller::TaskRunner;
-use crew::run::{CrewOptions, PhasedRun, Refused, with_crew};
+use crew::run::{CrewFault, CrewOptions, PhasedRun, with_crew};
 use crew::signal::WaitLimits;
 use in_place::timed_sim::run_alone;
 use shards::job::{Done, Job};
@@ -43,7 +43,7 @@ const MOST_SHARDS: usize = 64;
 
 /// Into how many shards a machine is split, and when.
 #[derive(Clone, Copy)]
-struct Split {
+struct ShardPlan {
     shards: usize,
     sharing: Sharing,
     ghost some: { 0 < shards },
@@ -158,8 +158,8 @@ impl LapLengths {
         }
     }
 
-    /// The lengths of the lap behind one that was run so. Where less is in flight for a while, as in a refresh, the caller
-    /// soon looks again whether the workers are to go on.
+    /// The lengths of the next lap, given who ran the last one. Where less is in flight for a while, as in a refresh,
+    /// the caller soon looks again whether the workers are to go on.
     fn after(self, by: LapBy, sharing: Sharing) -> LapLengths {
         match by {
             LapBy::Caller => LapLengths {
@@ -238,7 +238,7 @@ trait Mode {
         ensures refused { IfErr result (λ fault. fault ≡ Fault.Memory) };
 }
 
-/// By the caller, in place.
+/// The caller runs the interval, in place.
 #[derive(Drop)]
 struct InPlace;
 
@@ -248,10 +248,10 @@ impl Mode for InPlace {
     }
 }
 
-/// In shards where enough messages are in flight, and elsewhere by the caller in place.
+/// The interval is run in shards where enough messages are in flight, and elsewhere by the caller in place.
 #[derive(Drop)]
 struct InShards<N: Runner + Drop> {
-    split: Split,
+    split: ShardPlan,
     runner: N,
 }
 
@@ -319,7 +319,8 @@ fn finish<W: Watch, M: Mode>(
 fn unshared_stop(sim: &Sim, alloc: Global, options: RunOptions) -> Result<Option<Cycle>, AllocError>
     ensures later { IfOk result (λ stop. IfSome stop (λ end. sim.entry.now.now < end)) }
     ensures within { IfOk result (λ stop. IfSome stop (λ end. end ≤ options.cycles)) }
-    ensures goes_on { IfOk result (λ stop. IfSome stop (NotEnded sim.entry.now.machine sim.entry.now.now)) }
+    ensures goes_on { IfOk result (λ stop.
+        IfSome stop (NotEnded sim.entry.now.machine sim.entry.now.now)) }
 {
     match lap_by(sim, alloc, options.workers.sharing)? {
         LapBy::Caller => Ok(sim.next_stop(options.cycles)),
@@ -359,7 +360,7 @@ fn run_unshared<W: Watch>(
 struct CrewRun<'a, W: Watch> {
     watch: &'a mut W,
     options: RunOptions,
-    split: Split,
+    split: ShardPlan,
     run: RunState,
     ghost not_past: { run.sim.now ≤ options.cycles },
     ghost limit: { options.cycles ≤ 10 ^ 12 },
@@ -433,7 +434,7 @@ fn run_together<R: Threads + Wait + Sync, G: Gate + Sync, W: Watch>(
     let crew_run = CrewRun {
         watch,
         options,
-        split: Split { shards, sharing },
+        split: ShardPlan { shards, sharing },
         run,
     };
     let work = AtGate { gate };
@@ -444,8 +445,8 @@ fn run_together<R: Threads + Wait + Sync, G: Gate + Sync, W: Watch>(
     };
     match with_crew(rt, alloc, &work, crew_options, crew_run) {
         Ok(outcome) => Ok(outcome),
-        Err(Refused::Memory) => Err(Fault::Memory),
-        Err(Refused::Start) => Err(Fault::WorkerStart),
+        Err(CrewFault::Memory) => Err(Fault::Memory),
+        Err(CrewFault::Start) => Err(Fault::WorkerStart),
     }
 }
 
@@ -483,9 +484,9 @@ fn run_watched<R: Threads + Wait + Sync, G: Gate + Sync, W: Watch>(
 /// statistics and the state in which it ends. It is run by at most as many workers as are named, 1 to 64: the caller,
 /// and threads that are started once, where `options.workers.sharing` first says that they share the machine out. Up to
 /// there, and with one worker, it is run in the thread of the caller, in place. The watcher is told how far the run is,
-/// and when it has ended. What comes out depends on neither it, nor the workers, nor how they share, nor the order in
-/// which they end: it is what the one-clock machine does. Only the host can refuse: memory (fault 10), or, where there
-/// are several workers, a worker's start (fault 11). All workers have ended when this returns.
+/// and when it has ended. What comes out depends on neither the watcher, nor the workers, nor how they share, nor the
+/// order in which they end: it is what the one-clock machine does. Only the host can refuse: memory (fault 10), or,
+/// where there are several workers, a worker's start (fault 11). All workers have ended when this returns.
 pub fn run_machine<R: Threads + Wait + Sync, G: Gate + Sync, W: Watch>(
     rt: &R,
     alloc: Global,

@@ -42,8 +42,8 @@ impl<'a, G: Gate> Runner for Serial<'a, G> {
     }
 }
 
-/// Has a crew run the jobs, which its threads take starting from the last: those of channels, which have most to do,
-/// come last in a machine.
+/// Has a crew run the jobs, which its threads take starting from the last: the shards of channels, which have most to
+/// do, come last in a machine.
 #[derive(Drop)]
 pub struct ByCrew<'a, P: TaskRunner<Job, Done>> {
     pub crew: &'a mut P,

@@ -18,8 +18,8 @@ use std::sync::Wait;
 use std::thread::Threads;
 
 /// Runs the machine of an input that was read, for at most `options.cycles` cycles, as `simulate` says. Whatever texts
-/// the input was read from, the outcome is that of their run, so that a caller need not hold them while the machine
-/// runs.
+/// the input was read from, the outcome is that of their run, so that a caller need not hold the texts while the
+/// machine runs.
 pub fn run_input<R: Threads + Wait + Sync, G: Gate + Sync, W: Watch>(
     rt: &R,
     alloc: Global,
@@ -53,13 +53,13 @@ pub fn run_input<R: Threads + Wait + Sync, G: Gate + Sync, W: Watch>(
 ///
 /// The input is tested in this order: the configuration, the number of traces, the number of workers (1 to 64), the
 /// limit (at most 10^12 cycles), and the traces by core. The first fault is returned. `Fault::Memory` may come at any
-/// time; the run itself is refused only with this or, with two or more workers, with `Fault::WorkerStart`. The table
-/// of its commands is legal, as `check` reads it under the same configuration, whether it is asked for or not.
+/// time; the run itself is refused only with this or, with two or more workers, with `Fault::WorkerStart`. The table of
+/// its commands is legal, as `check` reads it under the same configuration, whether the table is asked for or not.
 ///
-/// In the run no cycle of a channel's data bus belongs to two commands. Where ranks are refreshed, the m-th REF of
-/// each stands at cycle `m * nREFI` plus the slack or earlier, if the run lasts that long. No queue was ever longer
-/// than the cores have credits for. No core is left with more credits than it began with, and at no cycle of the run
-/// had it spent more than those and the ones that came back.
+/// In the run no cycle of a channel's data bus belongs to two commands. Where ranks are refreshed, the m-th REF of each
+/// stands at cycle `m * nREFI` plus the slack or earlier, if the run lasts that long. No queue was ever longer than the
+/// cores have credits for. No core is left with more credits than it began with, and at no cycle of the run had a core
+/// spent more credits than it began with and got back.
 pub fn simulate<R: Threads + Wait + Sync, G: Gate + Sync, W: Watch>(
     rt: &R,
     alloc: Global,

@@ -16,7 +16,7 @@ pub struct Stage {
     pub now: Cycle,
     /// The limit of the run.
     pub limit: Cycle,
-    /// Whether it ends sooner where all is done.
+    /// Whether the run ends sooner where all is done.
     pub ends_drained: bool,
     /// How many entries of the traces have retired. None where the memory to count them was refused.
     pub retired: Option<u128>,
@@ -27,7 +27,7 @@ pub struct Stage {
 /// Who is told how far a run is. The watcher is asked before the first cycle, and each time the run has gone on for
 /// as many cycles as it answered. Whatever it answers, what comes out of the run is the same.
 pub trait Watch {
-    /// Whether it watches. If it does not, it is asked nothing, and nothing is counted for it.
+    /// Whether the watcher watches. If it does not, it is asked nothing, and nothing is counted for it.
     fn watches(&self) -> bool;
 
     /// How many cycles the run may go on before the watcher is asked again; 0 is taken as 1.
@@ -53,7 +53,7 @@ impl Watch for Unwatched {
     fn end(&mut self) {}
 }
 
-/// How far a run can go. A watcher is told it each time, and it stays the same over the run.
+/// How far a run can go. A watcher is told this each time; it stays the same over the run.
 #[derive(Clone, Copy)]
 pub(crate) struct RunExtent {
     /// The limit in cycles.
@@ -83,7 +83,7 @@ pub(crate) fn entries_of(traces: &[Trace]) -> u128
     entries
 }
 
-// How many entries retired in all cores.
+/// How many entries retired in all cores.
 fn retired_of(cores: &[CoreStats]) -> u128
     ensures { result ≡ sum_by (λ core. core.retired) cores.now }
 {
@@ -94,7 +94,7 @@ fn retired_of(cores: &[CoreStats]) -> u128
     retired
 }
 
-// How many entries have retired.
+/// How many entries have retired.
 fn retired_in(sim: &Sim, alloc: Global) -> Option<u128>
     ensures { IfSome result (λ n. n ≡ retired_by sim.entry.now.machine sim.entry.now.now) }
 {
@@ -104,7 +104,7 @@ fn retired_in(sim: &Sim, alloc: Global) -> Option<u128>
     }
 }
 
-// How far a simulator is.
+/// How far a simulator is.
 fn stage_of(sim: &Sim, alloc: Global, extent: RunExtent) -> Stage
     requires { IsExtentOf sim.now.machine extent }
     ensures { IsStageOf sim.entry.now.machine extent.limit sim.entry.now.now result }

@@ -1,7 +1,7 @@
 -- A channel issues no ACT for a request that was served: what it chooses is for a request that waits.
-use Rattle.std.proofs.Common.{◌≡◌, ℕ, ◌+◌, Bool, true, false, eqb, ◌||◌, List, [], ◌∷◌, length, take, Option, Some, None, refl, ap₂, subst, ◌∙◌}
+use Rattle.std.proofs.Common.{◌≡◌, ℕ, ◌+◌, Bool, true, false, eqb, List, [], ◌∷◌, length, take, Option, Some, None, refl, subst}
 use Rattle.std.specs.Prelude.{filter, filter_map, option_map}
-use Rattle.std.specs.List.{AllByRecursion as Each, list_any}
+use Rattle.std.specs.List.{AllByRecursion as Each}
 use Rattle.std.specs.Option.{IfSome}
 use Rattle.std.proofs.Math.Seq.{take-length}
 use Rattle.std.proofs.lemmas.Bool.{cond_both, and_parts, not-true}
@@ -12,14 +12,14 @@ use Rattle.sim_base.specs.declared.config.Config.{Config}
 use Rattle.sim_base.specs.History.{issued_commands}
 use Rattle.sim_base.specs.Rules.{is_legal, has_open_bank, open_row}
 use Rattle.sim_base.specs.Places.{bank_in}
-use Rattle.sim_base.specs.Scheduling.{request_in, serves, source_of, is_served, is_queued, queued_requests, queue_in, column_command, needed_at, needed, ready_hit, ready_row, first_ready, refresh_command, if_legal, choice_between, drains, lowest_due, choice}
+use Rattle.sim_base.specs.Scheduling.{request_in, source_of, is_served, is_queued, queued_requests, queue_in, column_command, needed_at, needed, ready_hit, ready_row, first_ready, refresh_command, if_legal, choice_between, drains, lowest_due, choice}
 use Rattle.sim_base.specs.declared.command.Command.{Command}
-use Rattle.sim_base.specs.declared.command.Command.TheVariants.{Act, Rd, Wr, Pre, Prea, Ref}
+use Rattle.sim_base.specs.declared.command.Command.TheVariants.{Pre}
 use Rattle.sim_base.specs.declared.command.IssuedCommand.{IssuedCommand}
 use Rattle.sim_base.specs.declared.message.Message.{Message}
 use Rattle.sim_base.specs.declared.message.Request.{Request}
 use Rattle.sim_base.proofs.Accesses.{column_both}
-use Rattle.statistics.specs.Channels.{is_column_command_of, is_late_act}
+use Rattle.statistics.specs.Channels.{is_late_act}
 
 pub passes : {X : Type 0} (p : X → Bool) (xs : List X) → Each (λ x. p x ≡ true) (filter p xs)
 passes p [] = tt
@@ -43,21 +43,9 @@ queue-unserved channel steps inbox =
     subst (λ x. Each (Unserved (issued_commands channel x)) (queued_requests (issued_commands channel (take (length steps) steps)) inbox (length steps + 1)))
     (take-length steps) (queued_requests-unserved (issued_commands channel (take (length steps) steps)) inbox (length steps + 1))
 
-column-serves : (r : Request) (command : Command) → is_column_command_of (source_of r) command ≡ serves r command
-column-serves r (Rd bank row column source) = refl
-column-serves r (Wr bank row column source) = refl
-column-serves r (Act bank row source) = refl
-column-serves r (Pre bank source) = refl
-column-serves r (Prea rank) = refl
-column-serves r (Ref rank) = refl
-
-column-served : (r : Request) (history : List IssuedCommand) → list_any (λ i. is_column_command_of (source_of r) i.command) history ≡ list_any (λ i. serves r i.command) history
-column-served r [] = refl
-column-served r (i ∷ history) = ap₂ (λ a b. a || b) (column-serves r i.command) (column-served r history)
-
 needed_at-not_late : (history : List IssuedCommand) (r : Request) → Unserved history r → (row : Option ℕ) → is_late_act history (Some (needed_at row r)) ≡ false
 unfolding is_served
-needed_at-not_late history r h None = column-served r history ∙ h
+needed_at-not_late history r h None = h
 needed_at-not_late history r h (Some row) =
     cond_both (eqb row r.place.row) (column_command r) (Pre (bank_in r.place) (source_of r)) (λ c. is_late_act history (Some c) ≡ false)
     (λ e. column_both (λ c. is_late_act history (Some c) ≡ false) r.access _ _ _ _ (λ f. refl) (λ f. refl))

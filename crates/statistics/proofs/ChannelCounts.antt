@@ -12,10 +12,10 @@ use Rattle.std.proofs.lemmas.List.Sums.{sum_by-cons, sum_by_push, fold_push, cou
 use Rattle.std.proofs.Math.Bool.{or-false}
 use Rattle.sim_base.proofs.Each.{Each-all, Each-append}
 use Rattle.sim_base.specs.declared.config.Config.{Config}
-use Rattle.sim_base.specs.Counts.{is_act_for, is_hit_of, is_hit, hits, issued_of_kind, queue_length, queue_lengths, queued, queued_max, idle, has_refresh_due, refreshing, draining}
-use Rattle.sim_base.specs.History.{below, issued_at, issued_commands}
+use Rattle.sim_base.specs.Counts.{is_act_for, is_hit_of, is_hit, hits, issued_of_kind, queue_length, queue_lengths, queued, queued_max, idle, has_refresh_due, refreshing, draining, one_if}
+use Rattle.sim_base.specs.History.{below, issued_at, issued_commands, issued_now}
 use Rattle.sim_base.specs.Rules.{is_kind, kind_of}
-use Rattle.sim_base.specs.Scheduling.{queued_requests, queue_in, writes_in, drains_with, drains_before, drains, lowest_due}
+use Rattle.sim_base.specs.Scheduling.{queued_requests, queue_in, writes_in, drains_with, drains_before, drains, lowest_due, is_entry, is_column_command_of}
 use Rattle.sim_base.specs.declared.command.Kind.{Kind}
 use Rattle.sim_base.specs.declared.command.Command.{Command}
 use Rattle.sim_base.specs.declared.command.Command.TheVariants.{Act, Rd, Wr, Pre, Prea, Ref}
@@ -25,8 +25,8 @@ use Rattle.sim_base.specs.declared.message.Message.{Message}
 use Rattle.sim_base.specs.declared.place.BankId.{BankId}
 use Rattle.sim_base.specs.Access.{is_access}
 use Rattle.sim_base.proofs.Added.{length-push_suc}
-use Rattle.statistics.specs.Counts.{one_if, sum_of_counts}
-use Rattle.statistics.specs.Channels.{draining_of, channel_stats, issues, issues_hit, channel_cycle_with, channel_cycle, channel_joined, is_entry, is_column_command_of, is_late_act, ChannelFits, channel_none, channel_counters, channel_numbers, channel_of}
+use Rattle.statistics.specs.Counts.{sum_of_counts}
+use Rattle.statistics.specs.Channels.{draining_of, channel_stats, issues, issues_hit, channel_cycle_with, channel_cycle, channel_joined, is_late_act, ChannelFits, channel_none, channel_counters, channel_numbers, channel_of}
 use Rattle.statistics.proofs.Lists.{take-push, map_below_more, map_below_same, count_below_more, count_below_same, sum_push}
 use Rattle.sim_base.proofs.Arrived.{NotBefore, NotBefore-weaker}
 use Rattle.sim_base.proofs.Same.{Stamped, AgreeUpTo, sooner, queue-same, drains-same}
@@ -45,10 +45,6 @@ enumerate_from-push n [] x = ap (λ k. (k, x) ∷ []) (sym (add-zero n))
 enumerate_from-push n (y ∷ ys) x =
     let e : n + 1 + length ys ≡ n + suc (length ys) = omega arith in
     ap (λ l. (n, y) ∷ l) (enumerate_from-push (n + 1) ys x ∙ ap (λ k. enumerate_from (n + 1) ys ++ (k, x) ∷ []) e)
-
--- the command of one cycle as a list
-abbrev pub issued_now : ℕ → ℕ → Option Command → List IssuedCommand
-issued_now channel cycle o = cons_option (issued_at channel cycle o) []
 
 pub issued_commands-push : (channel : ℕ) (steps : List (Option Command)) (o : Option Command)
     → issued_commands channel (steps ++ o ∷ []) ≡ issued_commands channel steps ++ issued_now channel (length steps) o

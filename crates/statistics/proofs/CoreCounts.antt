@@ -12,7 +12,7 @@ use Rattle.std.proofs.lemmas.List.Folds.{length-prefix_len}
 use Rattle.std.proofs.lemmas.List.Sums.{sum_by-append, sum_by-cons, sum_by_push, sum_by-take-le, prefix_len_passes, prefix_len-le-length, count_by-le-length}
 use Rattle.std.proofs.lemmas.List.FromFn.{length-range_with_len, get_or-range_with_len}
 use Rattle.sim_base.specs.declared.config.Config.{Config}
-use Rattle.sim_base.specs.Counts.{is_read, is_write, reads, writes, replied_entry, is_reply, is_reply_before, replies, is_unissued_after, issue_cycle, wait_of, read_latency, stop_in, stops, is_stop, stopped_by, has_retired_after, retire_cycle, finish}
+use Rattle.sim_base.specs.Counts.{is_read, is_write, reads, writes, replied_entry, is_reply, is_reply_before, replies, is_unissued_after, issue_cycle, wait_of, read_latency, stop_in, stops, is_stop, stopped_by, has_retired_after, retire_cycle, finish, one_if}
 use Rattle.sim_base.proofs.Below.{below_more}
 use Rattle.sim_base.specs.History.{below, retired_before, issued_before, inbox}
 use Rattle.sim_base.specs.Windows.{step}
@@ -23,7 +23,6 @@ use Rattle.sim_base.specs.declared.trace.Stop.{Stop}
 use Rattle.sim_base.proofs.Added.{length-push_suc}
 use Rattle.sim_base.proofs.Grows.{issued_before-push}
 use Rattle.statistics.specs.Cores.{issued_in, is_reply_in, replies_in, waited, finish_in, core_stats, core_cycle_with, core_cycle, core_joined, RepliesFollowReads, CoreFits, core_none, core_counters, core_numbers, core_of}
-use Rattle.statistics.specs.Counts.{one_if}
 use Rattle.statistics.proofs.Lists.{take-push, map_below_more, map_below_same, find_below_more, find_below_same, option_or-none, prefix_len-append_stop}
 use Rattle.sim_base.proofs.Arrived.{arrived, NotBefore, filter-arrived}
 use Rattle.sim_base.proofs.Same.{step-same}

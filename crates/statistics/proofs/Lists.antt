@@ -8,7 +8,7 @@ use Rattle.std.proofs.lemmas.List.Folds.{find-append}
 use Rattle.std.proofs.lemmas.List.Sums.{sum_by_push}
 use Rattle.sim_base.proofs.Below.{below_more}
 use Rattle.sim_base.specs.History.{below}
-use Rattle.statistics.specs.Counts.{one_if}
+use Rattle.sim_base.specs.Counts.{one_if}
 
 pub take-push : {X : Type 0} (xs : List X) (x : X) (n : ℕ) → n ≤ length xs → take n (xs ++ x ∷ []) ≡ take n xs
 take-push xs x n h = take-append-le n xs (x ∷ []) h

@@ -2,7 +2,7 @@
 use Rattle.std.proofs.Common.{◌≡◌, ℕ, suc, ◌+◌, ◌<◌, List, [], ◌∷◌, ◌++◌, length, Option, sym, ap, ap₂, subst, ◌∙◌, add-one, arith}
 use Rattle.sim_base.proofs.Arrived.{arrived}
 use Rattle.sim_base.proofs.Same.{AgreeUpTo}
-use Rattle.sim_base.proofs.Spans.{length-run, step_of_core-next, step_of_channel-next, inbox-run, inbox-stamped}
+use Rattle.sim_base.proofs.Spans.{length_run, step_of_core-next, step_of_channel-next, inbox-run, inbox-stamped}
 use Rattle.sim_base.specs.declared.config.Config.{Config}
 use Rattle.sim_base.specs.History.{trace_of, steps_of_core, steps_of_channel, inbox}
 use Rattle.sim_base.specs.Locality.{TravelsFor}
@@ -73,7 +73,7 @@ stats_of_core-next s traces n core l =
     let mail = inbox s traces (run s traces n) (Core core) in
     let then = inbox s traces (run s traces (suc n)) (Core core) in
     let row = (step s core trace steps mail).0 in
-    let len : length steps ≡ n = length-steps_of_core core (run s traces n) ∙ length-run s traces n in
+    let len : length steps ≡ n = length-steps_of_core core (run s traces n) ∙ length_run s traces n in
     let same : arrived then (length steps + 1) ≡ arrived mail (length steps + 1) = subst (λ i. arrived then (i + 1) ≡ arrived mail (i + 1)) (sym len) (inbox-next s traces n (Core core)) in
     let follow : RepliesFollowReads (steps ++ row ∷ []) then =
     subst (λ x. RepliesFollowReads x then) (steps_of_core-next s traces n core l) (RepliesFollowReads-run s traces (suc n) core) in
@@ -94,7 +94,7 @@ stats_of_channel-next s traces n channel l =
     let steps = steps_of_channel channel (run s traces n) in
     let mail = inbox s traces (run s traces n) (Channel channel) in
     let then = inbox s traces (run s traces (suc n)) (Channel channel) in
-    let len : length steps ≡ n = length-steps_of_channel channel (run s traces n) ∙ length-run s traces n in
+    let len : length steps ≡ n = length-steps_of_channel channel (run s traces n) ∙ length_run s traces n in
     let more : length (steps ++ choice s channel steps mail ∷ []) ≡ suc (length steps) = length-push_suc steps (choice s channel steps mail) in
     let same : arrived then (n + 1) ≡ arrived mail (n + 1) = inbox-next s traces n (Channel channel) in
     let agree : AgreeUpTo (length (steps ++ choice s channel steps mail ∷ [])) then mail =

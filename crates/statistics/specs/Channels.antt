@@ -4,31 +4,30 @@
 --     channel_none      of no cycle
 --     channel_joined a b      of two stretches of cycles, the first and what follows it
 --     channel_times n a      of n cycles that are each like this one
---     quiet_cycle drained queued has_due drains      of a cycle in which nothing is issued
+--     cycle_without_command drained queued has_due drains      of a cycle in which nothing is issued
 --     one_command k hit      of a command alone
 --     channel_counters, channel_numbers channel      its counters in `stats.csv`, and their numbers
 --     channel_of numbers draining      the statistics that have these numbers
 --     ChannelFits a      each count fits
-use Rattle.std.specs.Prelude.{ℕ, ◌+◌, ◌*◌, ◌^◌, ◌<◌, ◌==◌, nat_lt, max, Bool, false, ◌&&◌, List, [], ◌∷◌, length, codes, option_map, Option, Some, None, if◌then◌else◌}
+use Rattle.std.specs.Prelude.{ℕ, ◌+◌, ◌*◌, ◌^◌, ◌<◌, ◌==◌, nat_lt, max, Bool, false, List, [], ◌∷◌, length, codes, option_map, Option, Some, None, if◌then◌else◌}
 use Rattle.std.specs.List.{list_any}
 use Rattle.std.specs.Option.{IfSome}
 use Rattle.sim_base.specs.declared.config.Config.{Config}
-use Rattle.sim_base.specs.Counts.{issued_of_kind, is_hit, hits, queue_length, queued, queued_max, idle, has_refresh_due, refreshing, draining}
+use Rattle.sim_base.specs.Counts.{issued_of_kind, is_hit, hits, queue_length, queued, queued_max, idle, has_refresh_due, refreshing, draining, one_if}
 use Rattle.sim_base.specs.History.{issued_commands}
 use Rattle.sim_base.specs.Rules.{is_kind, kind_of}
-use Rattle.sim_base.specs.Scheduling.{drains}
+use Rattle.sim_base.specs.Scheduling.{drains, is_column_command_of}
 use Rattle.sim_base.specs.declared.command.Kind.{Kind}
 use Rattle.sim_base.specs.declared.command.Kind.TheVariants as kind
 use Rattle.sim_base.specs.declared.command.Command.{Command}
 use Rattle.sim_base.specs.declared.command.Command.TheVariants.{Act, Rd, Wr, Pre, Prea, Ref}
 use Rattle.sim_base.specs.declared.command.IssuedCommand.{IssuedCommand}
-use Rattle.sim_base.specs.declared.command.Source.{Source}
 use Rattle.sim_base.specs.declared.message.Message.{Message}
 use Rattle.statistics.specs.declared.channels.ChannelStats.{ChannelStats}
 use Rattle.statistics.specs.Counters.{number_or_zero}
 use Rattle.statistics.specs.declared.counters.CounterKind.{CounterKind}
 use Rattle.statistics.specs.declared.counters.CounterKind.TheVariants.{Count, Sum}
-use Rattle.statistics.specs.Counts.{one_if, sum_of_counts}
+use Rattle.statistics.specs.Counts.{sum_of_counts}
 
 -- a count of cycles of draining: there is none where the channel never drains
 abbrev pub draining_of : Config → ℕ → Option ℕ
@@ -85,7 +84,8 @@ channel_cycle_with s history queued has_due drains o =
 -- the statistics of the cycle after these steps, in which the channel does this
 unfoldable pub channel_cycle : Config → ℕ → List (Option Command) → List Message → Option Command → ChannelStats
 channel_cycle s channel steps inbox o =
-    channel_cycle_with s (issued_commands channel steps) (queue_length channel steps inbox (length steps)) (has_refresh_due s channel steps (length steps))
+    channel_cycle_with s (issued_commands channel steps) (queue_length channel steps inbox (length steps))
+    (has_refresh_due s channel steps (length steps))
     (drains s channel steps inbox (length steps)) o
 
 -- the statistics of no cycle
@@ -146,8 +146,8 @@ channel_times n a =
 
 -- the statistics of a cycle with a queue of this length, in which a refresh is due or not, the channel drains its
 -- writes or not, and nothing is issued; cycles of draining are counted where there is such a count
-abbrev pub quiet_cycle : Option ℕ → ℕ → Bool → Bool → ChannelStats
-quiet_cycle drained queued has_due drains =
+abbrev pub cycle_without_command : Option ℕ → ℕ → Bool → Bool → ChannelStats
+cycle_without_command drained queued has_due drains =
     record channel_none {
       queued = queued;
       queued_max = queued;
@@ -203,7 +203,9 @@ channel_counters =
 -- their numbers
 abbrev pub channel_numbers : ChannelStats → List (Option ℕ)
 channel_numbers channel =
-    Some channel.act ∷ Some channel.rd ∷ Some channel.wr ∷ Some channel.pre ∷ Some channel.prea ∷ Some channel.refs ∷ Some channel.hits ∷ Some channel.queued ∷ Some channel.queued_max ∷ Some channel.idle ∷ Some channel.refreshing ∷ []
+    Some channel.act ∷ Some channel.rd ∷ Some channel.wr ∷ Some channel.pre ∷ Some channel.prea ∷ Some channel.refs
+    ∷ Some channel.hits ∷ Some channel.queued ∷ Some channel.queued_max ∷ Some channel.idle ∷ Some channel.refreshing
+    ∷ []
 
 -- the statistics of a channel that has these numbers, and drained its writes in so many cycles, if it counts them
 abbrev pub channel_of : List (Option ℕ) → Option ℕ → ChannelStats
@@ -222,19 +224,6 @@ channel_of numbers draining =
       refreshing = number_or_zero numbers 10;
       draining = draining;
     }
-
--- whether two sources are the same entry of the same core
-abbrev pub is_entry : Source → Source → Bool
-is_entry a b = (a.core == b.core) && (a.entry == b.entry)
-
--- a column command for an entry
-abbrev pub is_column_command_of : Source → Command → Bool
-is_column_command_of source (Rd bank row column other) = is_entry source other
-is_column_command_of source (Wr bank row column other) = is_entry source other
-is_column_command_of source (Act bank row other) = false
-is_column_command_of source (Pre bank other) = false
-is_column_command_of source (Prea rank) = false
-is_column_command_of source (Ref rank) = false
 
 -- an ACT for an entry that was served before, by a column command
 abbrev pub is_late_act : List IssuedCommand → Option Command → Bool

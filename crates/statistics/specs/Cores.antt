@@ -14,7 +14,7 @@ use Rattle.std.specs.Prelude.{ℕ, ◌+◌, ◌*◌, ◌^◌, ◌<◌, ◌==◌,
 use Rattle.std.specs.Option.{IfSome, option_or}
 use Rattle.std.specs.List.{AllByRecursion as Each}
 use Rattle.sim_base.specs.declared.config.Config.{Config}
-use Rattle.sim_base.specs.Counts.{is_read, is_write, reads, writes, replied_entry, is_reply, replies, wait_of, read_latency, is_stop, stopped_by, finish}
+use Rattle.sim_base.specs.Counts.{is_read, is_write, reads, writes, replied_entry, is_reply, replies, wait_of, read_latency, is_stop, stopped_by, finish, one_if}
 use Rattle.sim_base.specs.History.{retired_before, issued_before}
 use Rattle.sim_base.specs.Windows.{step}
 use Rattle.sim_base.specs.declared.history.CoreStep.{CoreStep}
@@ -23,7 +23,6 @@ use Rattle.sim_base.specs.declared.trace.Entry.{Entry}
 use Rattle.sim_base.specs.declared.trace.Stop.{Stop}
 use Rattle.sim_base.specs.declared.trace.Stop.TheVariants as stop
 use Rattle.statistics.specs.Counters.{number_or_zero}
-use Rattle.statistics.specs.Counts.{one_if}
 use Rattle.statistics.specs.declared.cores.CoreStats.{CoreStats}
 use Rattle.statistics.specs.declared.counters.CounterKind.{CounterKind}
 use Rattle.statistics.specs.declared.counters.CounterKind.TheVariants.{Count, Sum, Cycle}
@@ -65,7 +64,8 @@ waited steps ms = sum_by (λ m. wait_of steps m.arrival (replied_entry m.payload
 -- the cycle after these steps, if the last entry retires in it
 unfoldable pub finish_in : List Entry → List CoreStep → CoreStep → Option ℕ
 finish_in trace steps done =
-    if nat_lt (retired_before steps) (length trace) && nat_le (length trace) (retired_before steps + done.retired) then Some (length steps) else None
+    if nat_lt (retired_before steps) (length trace)
+    && nat_le (length trace) (retired_before steps + done.retired) then Some (length steps) else None
 
 -- the statistics of a cycle in which no reply arrives: the core does this, stops for this cause and issues so many
 -- Reads and Writes, and the last entry of its trace retires in the cycle that is given, if it does
@@ -172,7 +172,8 @@ pub record CoreFits (a : CoreStats) : Type 0 where
 
 -- a reply, if it arrived within these steps, is of an entry that was issued in an earlier cycle
 abbrev pub FollowsItsRead : List CoreStep → Message → Type 0
-FollowsItsRead steps m = IfSome (replied_entry m.payload) (λ entry. m.arrival < length steps → entry < issued_before (take m.arrival steps))
+FollowsItsRead steps m =
+    IfSome (replied_entry m.payload) (λ entry. m.arrival < length steps → entry < issued_before (take m.arrival steps))
 
 -- each reply that arrived within these steps is of an entry that was issued in an earlier cycle
 abbrev pub RepliesFollowReads : List CoreStep → List Message → Type 0
@@ -198,7 +199,9 @@ core_counters =
 -- their numbers
 abbrev pub core_numbers : CoreStats → List (Option ℕ)
 core_numbers core =
-    Some core.issued ∷ Some core.retired ∷ Some core.reads ∷ Some core.writes ∷ Some core.replies ∷ Some core.read_latency ∷ Some core.stop_end ∷ Some core.stop_width ∷ Some core.stop_window ∷ Some core.stop_memory ∷ Some core.stop_credit ∷ core.finish ∷ []
+    Some core.issued ∷ Some core.retired ∷ Some core.reads ∷ Some core.writes ∷ Some core.replies
+    ∷ Some core.read_latency ∷ Some core.stop_end ∷ Some core.stop_width ∷ Some core.stop_window ∷ Some core.stop_memory
+    ∷ Some core.stop_credit ∷ core.finish ∷ []
 
 -- the statistics of a core that has these numbers
 abbrev pub core_of : List (Option ℕ) → CoreStats

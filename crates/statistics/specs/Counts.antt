@@ -1,11 +1,7 @@
 -- Counts of one cycle, and of two stretches.
 --     one_if b      one, where a test holds
 --     sum_of_counts a b      the sum of two counts, of which one or both may not be there
-use Rattle.std.specs.Prelude.{ℕ, ◌+◌, Bool, Option, Some, None, if◌then◌else◌}
-
--- one, where a test holds
-abbrev pub one_if : Bool → ℕ
-one_if b = if b then 1 else 0
+use Rattle.std.specs.Prelude.{ℕ, ◌+◌, Option, Some, None}
 
 -- the sum of two counts; where one of them is not there, the other
 abbrev pub sum_of_counts : Option ℕ → Option ℕ → Option ℕ

@@ -3,10 +3,11 @@
 --     if_asked asked table      a table, where it is asked for
 --     outcome_after tables s traces history      the commands and the requests that a history holds, its statistics, and the state that it leaves
 --     outcome_of tables s traces cycles      the same, for the run of this many cycles
+--     outcome_within tables s traces limit      the same, for the run up to a limit
 use Rattle.std.specs.Prelude.{ℕ, Bool, true, false, List, Option, Some, None, if◌then◌else◌}
 use Rattle.sim_base.specs.declared.config.Config.{Config}
 use Rattle.sim_base.specs.History.{commands}
-use Rattle.sim_base.specs.Machine.{run}
+use Rattle.sim_base.specs.Machine.{run, cycles_run}
 use Rattle.sim_base.specs.MachineStep.{MachineStep}
 use Rattle.sim_base.specs.declared.trace.Entry.{Entry}
 use Rattle.request_table.specs.Requests.{requests_of}
@@ -38,3 +39,8 @@ outcome_after tables s traces history =
 -- what the run of this many cycles leaves
 unfoldable pub outcome_of : Tables → Config → List (List Entry) → ℕ → RunOutcome
 outcome_of tables s traces cycles = outcome_after tables s traces (run s traces cycles)
+
+-- What the run of a machine over its traces leaves, with the tables that are asked for: it has as many cycles as the
+-- limit, or, where the configuration ends it drained, as many as it takes until all is done.
+abbrev pub outcome_within : Tables → Config → List (List Entry) → ℕ → RunOutcome
+outcome_within tables s traces limit = outcome_of tables s traces (cycles_run s traces limit)

@@ -27,11 +27,13 @@ use Rattle.statistics.specs.declared.final_state.OpenRow.{OpenRow}
 
 -- the statistics of a core of the machine
 unfoldable pub stats_of_core : Config → List (List Entry) → List MachineStep → ℕ → CoreStats
-stats_of_core s traces history core = core_stats s core (trace_of traces core) (steps_of_core core history) (inbox s traces history (Core core))
+stats_of_core s traces history core =
+    core_stats s core (trace_of traces core) (steps_of_core core history) (inbox s traces history (Core core))
 
 -- the statistics of a channel of the machine
 unfoldable pub stats_of_channel : Config → List (List Entry) → List MachineStep → ℕ → ChannelStats
-stats_of_channel s traces history channel = channel_stats s channel (steps_of_channel channel history) (inbox s traces history (Channel channel))
+stats_of_channel s traces history channel =
+    channel_stats s channel (steps_of_channel channel history) (inbox s traces history (Channel channel))
 
 -- how many cycles there were, and the statistics of each core and each channel
 unfoldable pub stats_of : Config → List (List Entry) → List MachineStep → RunStats
@@ -57,12 +59,12 @@ abbrev pub opened : BankId → ℕ → OpenRow
 opened bank row = record { bank = bank; row = row }
 
 -- the row that is open in a bank, with the bank
-abbrev pub row_of_bank : List IssuedCommand → BankId → Option OpenRow
-row_of_bank history bank = option_map (opened bank) (open_row bank history)
+abbrev pub open_row_of_bank : List IssuedCommand → BankId → Option OpenRow
+open_row_of_bank history bank = option_map (opened bank) (open_row bank history)
 
 -- the rows that are open after these steps, by rank, group and bank
 unfoldable pub open_rows_left : Config → ℕ → List (Option Command) → List OpenRow
-open_rows_left s channel steps = filter_map (row_of_bank (issued_commands channel steps)) (banks s)
+open_rows_left s channel steps = filter_map (open_row_of_bank (issued_commands channel steps)) (banks s)
 
 -- the state of a channel after these steps
 unfoldable pub channel_last : Config → ℕ → List (Option Command) → List Message → LastChannel
@@ -71,11 +73,13 @@ channel_last s channel steps inbox =
 
 -- the state in which a core of the machine is left
 unfoldable pub last_of_core : Config → List (List Entry) → List MachineStep → ℕ → LastCore
-last_of_core s traces history core = core_last s core (trace_of traces core) (steps_of_core core history) (inbox s traces history (Core core))
+last_of_core s traces history core =
+    core_last s core (trace_of traces core) (steps_of_core core history) (inbox s traces history (Core core))
 
 -- the state in which a channel of the machine is left
 unfoldable pub last_of_channel : Config → List (List Entry) → List MachineStep → ℕ → LastChannel
-last_of_channel s traces history channel = channel_last s channel (steps_of_channel channel history) (inbox s traces history (Channel channel))
+last_of_channel s traces history channel =
+    channel_last s channel (steps_of_channel channel history) (inbox s traces history (Channel channel))
 
 -- the state before the cycle after a history
 unfoldable pub final_of : Config → List (List Entry) → List MachineStep → LastState

@@ -85,7 +85,7 @@ pub fn counters() -> [Counter; COUNTERS]
 
 impl ChannelStats {
     ghost use Rattle.std.specs.Prelude.{◌≡◌, ◌<◌};
-    ghost use Rattle.statistics.specs.Channels.{channel_none, channel_joined, channel_times, quiet_cycle, one_command, ChannelFits, channel_counters, channel_numbers, channel_of};
+    ghost use Rattle.statistics.specs.Channels.{channel_none, channel_joined, channel_times, cycle_without_command, one_command, ChannelFits, channel_counters, channel_numbers, channel_of};
     ghost use Rattle.statistics.specs.Counters.{AreNumbersOf};
 
     /// The statistics of no cycle.
@@ -148,9 +148,9 @@ impl ChannelStats {
     pub fn add_cycles(&mut self, cycles: u64, queued: usize, refreshing: bool, draining: bool)
         requires some { 0 < cycles }
         requires fits { ChannelFits (channel_joined self.old
-            (channel_times cycles (quiet_cycle self.old.draining queued refreshing draining))) }
+            (channel_times cycles (cycle_without_command self.old.draining queued refreshing draining))) }
         ensures { self.new ≡ channel_joined self.old
-            (channel_times cycles (quiet_cycle self.old.draining queued refreshing draining)) }
+            (channel_times cycles (cycle_without_command self.old.draining queued refreshing draining)) }
     {
         self.queued += u128::from(cycles) * queued as u128;
         self.queued_max = self.queued_max.max(queued as u64);
@@ -186,7 +186,7 @@ impl ChannelStats {
         }
     }
 
-    /// Its numbers, in the order of `counters`.
+    /// The numbers of these statistics, in the order of `counters`.
     pub fn numbers(&self) -> [Option<u128>; COUNTERS]
         ensures { result ≡ channel_numbers self.now }
     {

@@ -115,7 +115,7 @@ impl CoreStats {
         }
     }
 
-    /// Its numbers, in the order of `counters`.
+    /// The numbers of these statistics, in the order of `counters`.
     pub fn numbers(&self) -> [Option<u128>; COUNTERS]
         ensures { result ≡ core_numbers self.now }
     {

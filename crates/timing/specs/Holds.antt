@@ -35,7 +35,9 @@ holds_after t earlier =
 
 -- for each earlier and each later kind, the distance for each relation, and whether a rule binds two such commands
 unfoldable pub hold_table : Timing → List HoldsAfter
-hold_table t = holds_after t Act ∷ holds_after t Rd ∷ holds_after t Wr ∷ holds_after t Pre ∷ holds_after t Prea ∷ holds_after t Ref ∷ []
+hold_table t =
+    holds_after t Act ∷ holds_after t Rd ∷ holds_after t Wr ∷ holds_after t Pre ∷ holds_after t Prea ∷ holds_after t Ref
+    ∷ []
 
 -- where a kind stands
 abbrev pub place_of_kind : Kind → ℕ

@@ -7,7 +7,7 @@ use Rattle.sim_base.specs.declared.trace.Entry.{Entry}
 use Rattle.sim_base.specs.History.{below}
 use Rattle.sim_base.specs.Machine.{run}
 use Rattle.sim_base.proofs.Lists.{map_below-more}
-use Rattle.sim_base.proofs.Spans.{length-run}
+use Rattle.sim_base.proofs.Spans.{length_run}
 use Rattle.statistics.specs.Runs.{stats_of_core, stats_of_channel, stats_of}
 use Rattle.statistics.specs.Values.{RunStats}
 use Rattle.units.specs.Units.{unit_count}
@@ -38,4 +38,4 @@ pub stats-are : (s : Config) (traces : List (List Entry)) (now : ℕ)
 unfolding stats_of
 stats-are s traces now =
     ap {B = RunStats} (λ n. record { cycles = n; cores = map (stats_of_core s traces (run s traces now)) (below s.cores); channels = map (stats_of_channel s traces (run s traces now)) (below s.channels) })
-    (sym (length-run s traces now))
+    (sym (length_run s traces now))

@@ -15,16 +15,16 @@ use Rattle.sim_base.specs.declared.trace.Entry.{Entry}
 use Rattle.sim_base.proofs.Arrived.{Each-by_age}
 use Rattle.sim_base.proofs.Each.{Each-both, Each-all, Each-filter}
 use Rattle.sim_base.proofs.Ordered.{Each-weaker}
-use Rattle.sim_base.proofs.Spans.{length-run}
+use Rattle.sim_base.proofs.Spans.{length_run}
 use Rattle.sim_base.proofs.Lists.{filter-both, filter-each, filter-agree}
 use Rattle.sim_base.proofs.Grows.{is_unit-own}
 use Rattle.links.specs.InFlight.{is_due}
 use Rattle.units.specs.SpanLaws.Units.{Exists}
 use Rattle.units.specs.Units.{unit_count, unit_at}
-use Rattle.units.specs.Parts.{late}
+use Rattle.links.specs.Rings.{later_of}
 use Rattle.units.specs.Flight.{left}
 use Rattle.units.proofs.Standing.{core-at_place, channel-at_place}
-use Rattle.units.proofs.Travelling.{Goes, all-go}
+use Rattle.units.proofs.SpanLaws.Later.{IsReceived, messages-received}
 use Rattle.statistics.proofs.ChannelChoices.{passes}
 
 -- a message is not due at any of the first units
@@ -104,7 +104,7 @@ spared-all s from until m e (suc k) =
     never false b = refl
 
 -- when each unit has taken its messages, those are left that arrive after the span
-left-late : (s : Config) (from until : ℕ) (m : Message) → Goes s m → from ≤ m.arrival → spared s from until (unit_count s) m ≡ not (ltb m.arrival until)
+left-late : (s : Config) (from until : ℕ) (m : Message) → IsReceived s m → from ≤ m.arrival → spared s from until (unit_count s) m ≡ not (ltb m.arrival until)
 left-late s from until m goes l = by (ltb m.arrival until) refl
   where
     by : (b : Bool) → ltb m.arrival until ≡ b → spared s from until (unit_count s) m ≡ not (ltb m.arrival until)
@@ -118,21 +118,21 @@ left-late s from until m goes l = by (ltb m.arrival until) refl
         spared-none s from until (place_of_unit s u) m due (unit_count s) (place-within s u goes) ∙ sym (ap not e)
 
 -- each message in flight goes to a unit, and is still to arrive
-pub flight-each : (s : Config) (traces : List (List Entry)) (from : ℕ) → Each (λ m. Goes s m × (from ≤ m.arrival)) (in_flight s traces (run s traces from))
+pub flight-each : (s : Config) (traces : List (List Entry)) (from : ℕ) → Each (λ m. IsReceived s m × (from ≤ m.arrival)) (in_flight s traces (run s traces from))
 unfolding in_flight
 flight-each s traces from =
     let history = run s traces from in
     let ms = messages s traces history in
     Each-by_age _ _
-    (Each-both (Goes s) (λ m. from ≤ m.arrival) (filter (is_in_flight history) ms)
-    (Each-filter (Goes s) (is_in_flight history) ms (all-go s traces from))
-    (Each-weaker _ (λ m. from ≤ m.arrival) (λ m e. since m (subst (λ n. not (ltb m.arrival n) ≡ true) (length-run s traces from) e)) _ (passes (is_in_flight history) ms)))
+    (Each-both (IsReceived s) (λ m. from ≤ m.arrival) (filter (is_in_flight history) ms)
+    (Each-filter (IsReceived s) (is_in_flight history) ms (messages-received s traces from))
+    (Each-weaker _ (λ m. from ≤ m.arrival) (λ m e. since m (subst (λ n. not (ltb m.arrival n) ≡ true) (length_run s traces from) e)) _ (passes (is_in_flight history) ms)))
   where
     since : (m : Message) → not (ltb m.arrival from) ≡ true → from ≤ m.arrival
     since m e = grind (arith, nat_tests)
 
 pub left-all : (s : Config) (traces : List (List Entry)) (from until : ℕ)
-    → left s from until (unit_count s) (in_flight s traces (run s traces from)) ≡ late until (in_flight s traces (run s traces from))
+    → left s from until (unit_count s) (in_flight s traces (run s traces from)) ≡ later_of until (in_flight s traces (run s traces from))
 left-all s traces from until =
     let ms = in_flight s traces (run s traces from) in
     left-spared s from until (unit_count s) ms

@@ -19,7 +19,7 @@ use Rattle.units.proofs.SpanLaws.ChannelsOn.{channels-end_alike}
 use Rattle.sim_base.specs.declared.config.Config.{Config}
 use Rattle.sim_base.specs.declared.trace.Entry.{Entry}
 use Rattle.sim_base.specs.History.{below, trace_of}
-use Rattle.statistics.specs.Runs.{credits_of, core_last, row_of_bank, open_rows_left, channel_last, last_of_core, last_of_channel}
+use Rattle.statistics.specs.Runs.{credits_of, core_last, open_row_of_bank, open_rows_left, channel_last, last_of_core, last_of_channel}
 use Rattle.statistics.specs.Values.{LastCore, LastChannel, LastState, RunStats, RunOutcome}
 use Rattle.request_table.specs.declared.times.RequestTimes.{RequestTimes}
 use Rattle.statistics.specs.declared.tables.Tables.{Tables}
@@ -37,7 +37,7 @@ pub given_more : {X Y : Type 0} (g : X → Option Y) (f : ℕ → X) (n : ℕ) �
 given_more g f n =
     ap (filter_map g) (map_below-more f n) ∙ filter_map-append g (map f (below n)) (f n ∷ []) ∙ ap (λ z. filter_map g (map f (below n)) ++ z) (cons_option-none (g (f n)))
 
--- and with one more list
+-- what a function gives of the elements of lists so far, with one more list
 pub given_list : {X Y : Type 0} (g : X → Option Y) (f : ℕ → List X) (n : ℕ) → filter_map g (flat_map f (below (n + 1))) ≡ filter_map g (flat_map f (below n)) ++ filter_map g (f n)
 given_list g f n = ap (filter_map g) (flat_map_below-more f n) ∙ filter_map-append g (flat_map f (below n)) (f n)
 
@@ -65,7 +65,7 @@ core_left_is s traces core now view h =
 pub channel_left_is : (s : Config) (traces : List (List Entry)) (channel now : ℕ)
     → ◌≡◌ {A = LastChannel} (record {
       due = map (λ rank. due s rank (history_of s traces now channel) now) (below s.ranks);
-      open_rows = filter_map (row_of_bank (history_of s traces now channel)) (banks s);
+      open_rows = filter_map (open_row_of_bank (history_of s traces now channel)) (banks s);
       queue = queued_requests (history_of s traces now channel) (mail_before s traces now (unit.Channel channel) now) (length (channel_steps_of s traces now channel));
     })
     (last_of_channel s traces (run s traces now) channel)
@@ -74,7 +74,7 @@ channel_left_is s traces channel now =
     let h = history_of s traces now channel in
     ap {B = LastChannel} (λ n. record {
       due = map (λ rank. due s rank h n) (below s.ranks);
-      open_rows = filter_map (row_of_bank h) (banks s);
+      open_rows = filter_map (open_row_of_bank h) (banks s);
       queue = queued_requests h (mail_before s traces now (unit.Channel channel) now) (length (channel_steps_of s traces now channel));
     })
     (sym (length-channel_steps_of s traces now channel))

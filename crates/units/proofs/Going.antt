@@ -17,12 +17,12 @@ use Rattle.units.specs.SpanLaws.Mail.{mail_in}
 use Rattle.units.proofs.SpanLaws.Flights.{due-left}
 use Rattle.units.specs.Flight.{is_at_places}
 use Rattle.units.specs.Units.{unit_at}
-use Rattle.units.specs.Wakes.{Sleeper, Waits, IsBrought, units_from, links_after}
+use Rattle.units.specs.Wakes.{Sleeper, Waits, HoldsInbox, units_from, links_after}
 use Rattle.units.proofs.Sharing.{at-places, not_there}
 use Rattle.units.specs.declared.machine.Machine.{Machine}
 use Rattle.units.proofs.Waiting.{untouched-none, none-taken}
 
--- one place more
+-- a unit stands at one place more
 more-places : (s : Config) (first k : ℕ) (u : MachineUnit) → (is_at_places s first (first + k) u || is_unit u (unit_at s (first + k))) ≡ is_at_places s first (first + suc k) u
 more-places s first k u = by u (ltb (first + k) s.cores) refl
   where
@@ -66,10 +66,10 @@ unfolding units_from
 after-more s from until first k ms = sym (left-then s.channels from until (units_from s first k) (unit_at s (first + k)) ms)
 
 -- what links hold for a unit they hold still when those before it have taken theirs
-pub left-brought : (machine : Machine) (first here there until k : ℕ) (old links : InFlight) → IsBrought machine here there until (unit_at machine.config (first + k)) old
-    → links ≡ links_after machine.config here until first k old → IsBrought machine here there until (unit_at machine.config (first + k)) links
-left-brought machine first here there until k old links h e =
-    subst (IsBrought machine here there until u) (sym e)
+pub left-holds_inbox : (machine : Machine) (first here there until k : ℕ) (old links : InFlight) → HoldsInbox machine here there until (unit_at machine.config (first + k)) old
+    → links ≡ links_after machine.config here until first k old → HoldsInbox machine here there until (unit_at machine.config (first + k)) links
+left-holds_inbox machine first here there until k old links h e =
+    subst (HoldsInbox machine here there until u) (sym e)
     (record {
       channels_are = h.channels_are;
       overdue = same 0 here ∙ h.overdue;
@@ -84,14 +84,14 @@ left-brought machine first here there until k old links h e =
     same a b = due-left machine.config.channels here until a b u (units_from machine.config first k) old.messages (not-yet machine.config first k)
 
 -- for a unit that they are brought to, what links give before a cycle is what is due from where its kind stands
-pub held-due : (machine : Machine) (here there until : ℕ) (u : MachineUnit) (links : InFlight) → IsBrought machine here there until u links
+pub held-due : (machine : Machine) (here there until : ℕ) (u : MachineUnit) (links : InFlight) → HoldsInbox machine here there until u links
     → (filter (is_due_before machine.config.channels u until) links.messages ≡ filter (is_due machine.config.channels u here until) links.messages)
     × (filter (λ m. not (is_due_before machine.config.channels u until m)) links.messages ≡ filter (λ m. not (is_due machine.config.channels u here until m)) links.messages)
 held-due machine here there until u links h = none_overdue machine.config.channels here until u links.messages h.overdue
 
 -- what a unit takes out of them is its mail
 pub held-mail : (machine : Machine) (here there until : ℕ) (u unit : MachineUnit) (links : InFlight) (inbox : List Message)
-    → IsBrought machine here there until u links → unit ≡ u → inbox ≡ filter (is_due_before links.channels unit until) links.messages → inbox ≡ mail_in machine.config machine.traces.items there u here until
+    → HoldsInbox machine here there until u links → unit ≡ u → inbox ≡ filter (is_due_before links.channels unit until) links.messages → inbox ≡ mail_in machine.config machine.traces.items there u here until
 held-mail machine here there until u unit links inbox h e m =
     m
     ∙ ap (λ c. filter (is_due_before c unit until) links.messages) h.channels_are
@@ -99,7 +99,7 @@ held-mail machine here there until u unit links inbox h e m =
     ∙ (held-due machine here there until u links h).0
     ∙ h.due here until (omega arith)
 
-pub held-links : (machine : Machine) (here there until : ℕ) (u unit : MachineUnit) (links after : InFlight) → IsBrought machine here there until u links → unit ≡ u
+pub held-links : (machine : Machine) (here there until : ℕ) (u unit : MachineUnit) (links after : InFlight) → HoldsInbox machine here there until u links → unit ≡ u
     → after ≡ record links { messages = filter (λ m. not (is_due_before links.channels unit until m)) links.messages }
     → after ≡ record links { messages = filter (λ m. not (is_due machine.config.channels u here until m)) links.messages }
 held-links machine here there until u unit links after h e a =
@@ -108,7 +108,7 @@ held-links machine here there until u unit links after h e a =
     ∙ ap {A = MachineUnit} {B = InFlight} (λ v. record links { messages = filter (λ m. not (is_due_before machine.config.channels v until m)) links.messages }) e
     ∙ ap {B = InFlight} (λ ms. record links { messages = ms }) (held-due machine here there until u links h).1
 
--- and leaves the others
+-- a unit that takes its mail out of the links leaves the others
 pub taken-links : (s : Config) (first here until k : ℕ) (old links after : InFlight) → links ≡ links_after s here until first k old
     → after ≡ record links { messages = filter (λ m. not (is_due s.channels (unit_at s (first + k)) here until m)) links.messages } → after ≡ links_after s here until first (suc k) old
 taken-links s first here until k old links after e a =
@@ -117,11 +117,11 @@ taken-links s first here until k old links after e a =
     ∙ ap {B = InFlight} (λ z. record old { messages = z }) (after-more s here until first k old.messages)
 
 -- a unit that is left alone has nothing in them that is due
-pub left-alone : (machine : Machine) (first here there until k : ℕ) (old : InFlight) (sleeper : Sleeper) → here ≤ until → IsBrought machine here there until (unit_at machine.config (first + k)) old
+pub left-alone : (machine : Machine) (first here there until k : ℕ) (old : InFlight) (sleeper : Sleeper) → here ≤ until → HoldsInbox machine here there until (unit_at machine.config (first + k)) old
     → until ≤ sleeper.wake → Waits machine (unit_at machine.config (first + k)) here there sleeper → links_after machine.config here until first k old ≡ links_after machine.config here until first (suc k) old
-left-alone machine first here there until k old sleeper l brought w h =
+left-alone machine first here there until k old sleeper l holds_inbox w h =
     let u = unit_at machine.config (first + k) in
     let left = left_after machine.config.channels here until (units_from machine.config first k) old.messages in
     let none : filter (is_due machine.config.channels u here until) left ≡ [] =
-    (left-brought machine first here there until k old (links_after machine.config here until first k old) brought refl).due here until (omega arith) ∙ untouched-none machine u here there until sleeper w h in
+    (left-holds_inbox machine first here there until k old (links_after machine.config here until first k old) holds_inbox refl).due here until (omega arith) ∙ untouched-none machine u here there until sleeper w h in
     ap {B = InFlight} (λ z. record old { messages = z }) (sym (none-taken (is_due machine.config.channels u here until) left none) ∙ after-more machine.config here until first k old.messages)

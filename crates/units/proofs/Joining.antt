@@ -18,11 +18,11 @@ use Rattle.sim_base.proofs.Below.{flat_map_below_more, flat_map_below_same}
 use Rattle.sim_base.proofs.Each.{Each-all, Each-flat_map_below, Each-last}
 use Rattle.sim_base.proofs.Grows.{SentBy, of_core-by, of_channel-by, apart}
 use Rattle.sim_base.proofs.Ordered.{Apart, Sorted, Each-weaker, puts-swap, puts-append, Sorted-puts, filter-puts, filter-by_age}
-use Rattle.sim_base.proofs.Spans.{length-run}
+use Rattle.sim_base.proofs.Spans.{length_run}
 use Rattle.sim_base.proofs.Lists.{filter-each}
 use Rattle.units.specs.SpanLaws.Units.{Exists, sent_of}
 use Rattle.units.specs.Flight.{fresh}
-use Rattle.units.specs.Parts.{late}
+use Rattle.links.specs.Rings.{later_of}
 use Rattle.units.specs.Units.{unit_at, unit_count}
 use Rattle.units.proofs.Due.{place-at, place_of_unit, exists-at}
 use Rattle.units.proofs.Filters.{filter-within}
@@ -128,10 +128,10 @@ all-grow machine from until k =
     (λ i l. sent-by machine.config machine.traces.items from (unit_at machine.config i) (exists-at machine.config i l)) (λ i l. fresh-by machine from until i l k)
     ∙ ap (λ z. puts z (flat_map (fresh machine from until) (below n))) (ap (puts []) (all-sent machine.config machine.traces.items from) ∙ sym (by_age-puts (messages machine.config machine.traces.items (run_of machine from))))
 
-flight-late : (s : Config) (traces : List (List Entry)) (n : ℕ) → in_flight s traces (run s traces n) ≡ late n (by_age (messages s traces (run s traces n)))
+flight-late : (s : Config) (traces : List (List Entry)) (n : ℕ) → in_flight s traces (run s traces n) ≡ later_of n (by_age (messages s traces (run s traces n)))
 unfolding in_flight
 flight-late s traces n =
-    ap (λ i. by_age (filter (λ m. not (ltb m.arrival i)) (messages s traces (run s traces n)))) (length-run s traces n)
+    ap (λ i. by_age (filter (λ m. not (ltb m.arrival i)) (messages s traces (run s traces n)))) (length_run s traces n)
     ∙ sym (filter-by_age (λ m. not (ltb m.arrival n)) (messages s traces (run s traces n)))
 
 later : (a from until : ℕ) → from ≤ until → not (ltb a until) ≡ true → not (ltb a from) ≡ true
@@ -140,12 +140,12 @@ later a from until l e = grind (arith, nat_tests)
 since : (a until : ℕ) → until ≤ a → not (ltb a until) ≡ true
 since a until l = grind (arith, nat_tests)
 
-late-late : (from until : ℕ) → from ≤ until → (ms : List Message) → late until (late from ms) ≡ late until ms
+late-late : (from until : ℕ) → from ≤ until → (ms : List Message) → later_of until (later_of from ms) ≡ later_of until ms
 late-late from until l ms =
     filter-within (λ m. not (ltb m.arrival until)) (λ m. not (ltb m.arrival from)) (λ m. later m.arrival from until l) ms
 
 pub join-flight : (machine : Machine) (from until : ℕ) → from ≤ until → TravelsFor machine.config (until - from)
-    → fold insert_by_age (late until (flight_at machine from)) (flat_map (fresh machine from until) (below (unit_count machine.config))) ≡ flight_at machine until
+    → fold insert_by_age (later_of until (flight_at machine from)) (flat_map (fresh machine from until) (below (unit_count machine.config))) ≡ flight_at machine until
 join-flight machine from until k t =
     let n = unit_count machine.config in
     let old = by_age (messages machine.config machine.traces.items (run_of machine from)) in
@@ -154,10 +154,10 @@ join-flight machine from until k t =
     let all : Each (λ m. p m ≡ true) new =
     Each-flat_map_below (λ (m : Message). p m ≡ true) (fresh machine from until) n
     (λ i l. Each-weaker (λ (m : Message). until ≤ m.arrival) (λ (m : Message). p m ≡ true) (λ m h. since m.arrival until h) _ (fresh-late machine from until i l k t)) in
-    fold-puts (late until (flight_at machine from)) new
-    ∙ ap (λ z. puts (late until z) new) (flight-late machine.config machine.traces.items from)
+    fold-puts (later_of until (flight_at machine from)) new
+    ∙ ap (λ z. puts (later_of until z) new) (flight-late machine.config machine.traces.items from)
     ∙ ap (λ z. puts z new) (late-late from until k old)
-    ∙ ap (puts (late until old)) (sym (filter-each p new all))
+    ∙ ap (puts (later_of until old)) (sym (filter-each p new all))
     ∙ sym (filter-puts p old new (subst Sorted (sym (by_age-puts (messages machine.config machine.traces.items (run_of machine from)))) (Sorted-puts [] (messages machine.config machine.traces.items (run_of machine from)) tt)))
-    ∙ ap (late until) (sym (all-grow machine from until k))
+    ∙ ap (later_of until) (sym (all-grow machine from until k))
     ∙ sym (flight-late machine.config machine.traces.items until)

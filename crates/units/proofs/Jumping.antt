@@ -18,7 +18,8 @@ use Rattle.statistics.proofs.RunSteps.{travels}
 use Rattle.laws.proofs.Sent.{flat_map-none}
 use Rattle.links.specs.InFlight.{InFlight, is_due}
 use Rattle.units.specs.Flight.{fresh, left, among, sent_by}
-use Rattle.units.specs.Parts.{late, IsPart, IsSim}
+use Rattle.units.specs.Parts.{IsPart, IsSim}
+use Rattle.links.specs.Rings.{later_of}
 use Rattle.units.specs.declared.part.UnitState.{UnitState}
 use Rattle.units.specs.Units.{unit_at, unit_count}
 use Rattle.units.proofs.Due.{left-all, left-none, left-more, exists-at}
@@ -29,11 +30,7 @@ use Rattle.units.proofs.Sharing.{among-all}
 use Rattle.units.specs.declared.machine.Machine.{Machine}
 use Rattle.units.specs.Runs.{run_of, flight_at, sent_at}
 use Rattle.units.proofs.Waiting.{awake-waits, due-flight, known-phase, none-taken, untouched, untouched-none}
-
--- a unit of a machine that has one
-pub some-unit : (units : List TimedUnit) → 0 < length units → TimedUnit
-some-unit [] l = absurd (omega (arith, l))
-some-unit (x ∷ xs) l = x
+use Rattle.sim_base.proofs.Lists.{some-of}
 
 -- in no cycles nothing is sent
 fresh-none : (machine : Machine) (now place : ℕ) → fresh machine now now place ≡ []
@@ -51,7 +48,7 @@ pub record RestsTo (machine : Machine) (now until : ℕ) (u : MachineUnit) : Typ
   pub wakes : until ≤ sleeper.wake
   pub waits : Waits machine u now now sleeper
 
--- so do all units of a machine
+-- all units of a machine wait, and may be left alone up to a cycle
 abbrev pub AllRest : Machine → ℕ → ℕ → Type 0
 AllRest machine now until = (place : ℕ) → place < unit_count machine.config → RestsTo machine now until (unit_at machine.config place)
 
@@ -82,16 +79,16 @@ still-waits machine u now then sleeper h still l w =
 -- a phase in which no unit is woken
 sleep-span : (machine : Machine) (now then until : ℕ) → AllRest machine now until → now ≤ then → then ≤ until → TravelsFor machine.config (then - now) → IsStill machine now then
 sleep-span machine now then until h l m t =
-    record { sent = λ k less. (gone k less).sent ∙ append-nil (sent_at machine now (unit_at machine.config k)); flight = same }
+    record { sent = λ k less. (has_run k less).sent ∙ append-nil (sent_at machine now (unit_at machine.config k)); flight = same }
   where
     flying : List Message
     flying = flight_at machine now
 
-    gone : (k : ℕ) (less : k < unit_count machine.config) → HasGoneOn machine (unit_at machine.config k) now now then (h k less).sleeper []
-    gone k less = untouched machine (unit_at machine.config k) now now then (h k less).sleeper (exists-at machine.config k less) l (known-phase machine now then (unit_at machine.config k) l t) (omega (arith, m, (h k less).wakes)) (h k less).waits
+    has_run : (k : ℕ) (less : k < unit_count machine.config) → HasGoneOn machine (unit_at machine.config k) now now then (h k less).sleeper []
+    has_run k less = untouched machine (unit_at machine.config k) now now then (h k less).sleeper (exists-at machine.config k less) l (known-phase machine now then (unit_at machine.config k) l t) (omega (arith, m, (h k less).wakes)) (h k less).waits
 
     sends-none : (k : ℕ) → k < unit_count machine.config → fresh machine now then k ≡ []
-    sends-none k less = fresh-is machine now then k [] (gone k less).sent
+    sends-none k less = fresh-is machine now then k [] (has_run k less).sent
 
     none-comes : (k : ℕ) → k < unit_count machine.config → filter (is_due machine.config.channels (unit_at machine.config k) now then) flying ≡ []
     none-comes k less = due-flight machine.config machine.traces.items now now then (unit_at machine.config k) (omega arith) ∙ untouched-none machine (unit_at machine.config k) now now then (h k less).sleeper (omega (arith, m, (h k less).wakes)) (h k less).waits
@@ -106,11 +103,11 @@ sleep-span machine now then until h l m t =
     same : flight_at machine then ≡ flying
     same =
         sym (join-flight machine now then l t)
-        ∙ ap (fold insert_by_age (late then flying)) (flat_map-none (fresh machine now then) (unit_count machine.config) sends-none)
+        ∙ ap (fold insert_by_age (later_of then flying)) (flat_map-none (fresh machine now then) (unit_count machine.config) sends-none)
         ∙ sym (left-all machine.config machine.traces.items now then)
         ∙ none-left (unit_count machine.config) (omega arith)
 
--- and any number of cycles, one after the other
+-- any number of cycles, one after the other, in which no unit is woken
 sleep-cycles : (machine : Machine) (now until : ℕ) → AllRest machine now until → (n : ℕ) → now + n ≤ until → IsStill machine now (now + n)
 sleep-cycles machine now until h zero m = subst (IsStill machine now) (sym (add-zero now)) (record { sent = λ k less. refl; flight = refl })
 sleep-cycles machine now until h (suc n) m =
@@ -132,7 +129,7 @@ pub asleep-until : (machine : Machine) (first now : ℕ) (units : List TimedUnit
 asleep-until machine first now units words links h k d less =
     let i : k < length units = omega (arith, less, h.words_count) in
     let e : get_or words k 0 ≡ get_or words k d = get_or_default words k 0 d less in
-    subst (λ w. now ≤ w) e (h.wait k (some-unit units (omega (arith, i))) i).ahead
+    subst (λ w. now ≤ w) e (h.wait k (some-of units (omega (arith, i))) i).ahead
 
 none-first_of : (k : ℕ) → 0 + k ≡ k
 none-first_of k = omega arith

@@ -26,7 +26,7 @@ use Rattle.units.proofs.SpanLaws.Over.{over-is_seen}
 use Rattle.units.proofs.SpanLaws.Lasting.{lasts-for_trace, lasts-for_flight}
 use Rattle.units.specs.Units.{unit_at}
 use Rattle.units.specs.Parts.{IsPart, StandAt}
-use Rattle.units.specs.Drained.{HasFinished, AllFinished, GoesOn}
+use Rattle.units.specs.Drained.{HasFinished, AllFinished, StillRuns}
 use Rattle.units.specs.declared.part.UnitState.{UnitState}
 use Rattle.units.specs.declared.part.UnitState.TheVariants as part
 use Rattle.units.specs.declared.machine.Machine.{Machine}
@@ -79,7 +79,7 @@ over-from_units machine now none all =
       λ channel l. subst (HasFinished machine now) (channel-at_place machine.config (machine.config.cores + channel) channel refl) (all (machine.config.cores + channel) (omega arith)),
     )
 
--- and only there
+-- where a run is over, all units have finished
 pub units-from_over : (machine : Machine) (now : ℕ) → is_over_at machine now ≡ true → AllFinished machine now
 units-from_over machine now over place l = go (cases_lt place machine.config.cores)
   where
@@ -108,7 +108,7 @@ work-left left width k some l =
 
 pub core-goes_on : (machine : Machine) (now core : ℕ) (c : Core) (until : ℕ) → IsCorePlace machine.config machine.traces.items now core c → 0 < machine.config.width
     → let left = length (trace_of machine.traces.items core) - c.stats.retired in
-    until ≤ now + (left / machine.config.width + min 1 (left % machine.config.width)) → GoesOn machine now until
+    until ≤ now + (left / machine.config.width + min 1 (left % machine.config.width)) → StillRuns machine now until
 core-goes_on machine now core c until h some l t m k =
     let left = length (trace_of machine.traces.items core) - c.stats.retired in
     let before : t - now < left / machine.config.width + min 1 (left % machine.config.width) = omega arith in
@@ -117,7 +117,7 @@ core-goes_on machine now core c until h some l t m k =
     lasts-for_trace machine.config machine.traces.items now t core h.below m (omega (arith, short, same))
 
 pub flight-goes_on : (machine : Machine) (now arrival until : ℕ) (ms : List Message) → Any (λ m. m.arrival ≡ arrival) ms → ms ≡ flight_at machine now
-    → until ≤ arrival + 1 → GoesOn machine now until
+    → until ≤ arrival + 1 → StillRuns machine now until
 flight-goes_on machine now arrival until ms some e l t m k =
     let there : t ≤ some.1.arrival = omega (arith, some.4) in
     lasts-for_flight machine.config machine.traces.items now t m (subst (Any (λ (x : Message). t ≤ x.arrival)) e (some.0, some.1, some.2, some.3, there))

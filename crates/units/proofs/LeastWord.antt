@@ -54,7 +54,7 @@ least-all [] k d l = absurd (omega (arith, l))
 least-all (x ∷ xs) zero d l = omega (arith, least-cons x xs)
 least-all (x ∷ xs) (suc k) d l = let rest = least-all xs k d (omega (arith, l)) in omega (arith, least-cons x xs, rest)
 
--- and what is not above any of them is not above it
+-- a bound that is not above any of the words is not above the least
 pub least-since : (words : List ℕ) (bound : ℕ) → bound ≤ greatest → All (λ word. bound ≤ word) words → bound ≤ least_of words
 least-since [] bound l h = l
 least-since (x ∷ xs) bound l h =

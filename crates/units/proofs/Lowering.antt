@@ -4,7 +4,7 @@ use Rattle.std.specs.Prelude.{filter, slice_get, option_map, Some, None, All}
 use Rattle.std.specs.List.{AllByRecursion as Each}
 use Rattle.std.proofs.lemmas.Bool.Decides.{nat_tests}
 use Rattle.std.proofs.lemmas.List.Elements.{All-from_recursion, recursion_from_All}
-use Rattle.sim_base.specs.History.{is_unit}
+use Rattle.sim_base.specs.History.{is_unit, receiver_of}
 use Rattle.sim_base.specs.Locality.{TravelsFor}
 use Rattle.sim_base.specs.declared.message.Message.{Message}
 use Rattle.sim_base.specs.declared.message.Unit.{Unit as MachineUnit}
@@ -13,12 +13,13 @@ use Rattle.sim_base.proofs.Each.{Each-filter, Each-flat_map_below}
 use Rattle.sim_base.proofs.Ordered.{filter-puts}
 use Rattle.sim_base.proofs.Kept.{filter-filter}
 use Rattle.sim_base.proofs.Lists.{filter-both}
-use Rattle.links.specs.InFlight.{is_due, receiver_of, arrives_within}
+use Rattle.links.specs.InFlight.{is_due, arrives_within}
 use Rattle.units.specs.SpanLaws.Mail.{mail_in}
 use Rattle.units.specs.SpanLaws.Quiet.{IsSilent}
 use Rattle.units.proofs.SpanLaws.Lists.{Sorted-filter}
 use Rattle.units.specs.Flight.{fresh, goes_among, among}
-use Rattle.units.specs.Parts.{late, IsPart}
+use Rattle.units.specs.Parts.{IsPart}
+use Rattle.links.specs.Rings.{later_of}
 use Rattle.units.specs.Units.{unit_at, unit_count}
 use Rattle.units.specs.Wakes.{Sleeper, Waits, WaitAll, AreLowered, sleeper_at, sent_in}
 use Rattle.units.specs.declared.timed_unit.TimedUnit.{TimedUnit}
@@ -48,10 +49,10 @@ lowered-waits machine u now until sleeper after l t h part at since within none-
     let none-old : filter p old ≡ [] = due-flight machine.config machine.traces.items now until w u l ∙ none-part machine.config machine.traces.items now sleeper.at sleeper.wake until w u h.behind within h.may.none in
     let none-before : mail_in machine.config machine.traces.items until u sleeper.at until ≡ [] =
     known-mail machine now sleeper.at until u (known-phase machine now until u l t) ∙ none-part machine.config machine.traces.items now sleeper.at sleeper.wake sleeper.at until u (omega arith) h.ahead h.may.none in
-    let none-late : filter p (late until old) ≡ [] = filter-filter p (λ m. not (ltb m.arrival until)) old ∙ ap (late until) none-old in
+    let none-late : filter p (later_of until old) ≡ [] = filter-filter p (λ m. not (ltb m.arrival until)) old ∙ ap (later_of until) none-old in
     let none : filter p (flight_at machine until) ≡ [] =
-    ap (filter p) (sym (join-flight machine now until l t) ∙ fold-puts (late until old) new)
-    ∙ filter-puts p (late until old) new (Sorted-filter (λ m. not (ltb m.arrival until)) old (flight-sorted machine.config machine.traces.items now))
+    ap (filter p) (sym (join-flight machine now until l t) ∙ fold-puts (later_of until old) new)
+    ∙ filter-puts p (later_of until old) new (Sorted-filter (λ m. not (ltb m.arrival until)) old (flight-sorted machine.config machine.traces.items now))
     ∙ ap₂ puts none-late none-new in
     record {
       behind = omega (arith, at, h.behind);
@@ -69,7 +70,7 @@ lowered-waits machine u now until sleeper after l t h part at since within none-
     mail : ℕ → ℕ → List Message
     mail a b = mail_in machine.config machine.traces.items until u a b
 
--- so do all units, once their words are lowered to what goes to them of what was sent
+-- all units wait on, once their words are lowered to what was sent to them in the phase
 pub lowered-wait_all : (machine : Machine) (first now until : ℕ) (units : List TimedUnit) (old new : List ℕ) (sent : List Message) → now ≤ until → TravelsFor machine.config (until - now)
     → length old ≡ length units → WaitAll machine first until now units old → sent ≡ among machine.config first (first + length units) (sent_in machine now until)
     → AreLowered machine.config first sent old new → WaitAll machine first until until units new

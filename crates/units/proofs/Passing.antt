@@ -8,23 +8,23 @@ use Rattle.links.specs.InFlight.{InFlight}
 use Rattle.units.specs.SpanLaws.Units.{Exists}
 use Rattle.units.specs.Flight.{fresh, sent_by}
 use Rattle.units.specs.Units.{unit_at, unit_count}
-use Rattle.units.specs.Wakes.{AddsWhatItSent, AllBrought, HasGoneOn, WaitAll, Waits, links_after, sleeper, sleeper_at}
+use Rattle.units.specs.Wakes.{AddsWhatItSent, HoldInboxes, HasGoneOn, WaitAll, Waits, links_after, sleeper, sleeper_at}
 use Rattle.units.specs.declared.timed_unit.TimedUnit.{TimedUnit}
 use Rattle.units.proofs.Due.{exists-at}
 use Rattle.units.proofs.Going.{after-none, left-alone}
 use Rattle.units.proofs.Joining.{fresh-is}
-use Rattle.units.proofs.Jumping.{some-unit}
 use Rattle.units.specs.declared.machine.Machine.{Machine}
 use Rattle.units.proofs.Waiting.{untouched}
+use Rattle.sim_base.proofs.Lists.{some-of}
 
--- Of so many units, at places from one on, the first have gone over the span, and the others wait; what those sent
--- stands in the list, and what was due at them is out of the links.
+-- Of `count` units at places from `first` on, those before `place` have gone over the span, and the others wait; what
+-- the first sent stands in the list, and what was due at them is out of the links.
 pub record AreTaken (machine : Machine) (first count here there until : ℕ) (units : List TimedUnit) (words : List ℕ) (sent : List Message) (old links : InFlight) (place : ℕ) : Type 0 where
   pub exist : first + count ≤ unit_count machine.config
   pub units_count : length units ≡ count
   pub words_count : length words ≡ count
   pub within : place ≤ count
-  pub gone : (k : ℕ) (d : TimedUnit) → k < place → Waits machine (unit_at machine.config (first + k)) until there (sleeper_at units words k d)
+  pub has_run : (k : ℕ) (d : TimedUnit) → k < place → Waits machine (unit_at machine.config (first + k)) until there (sleeper_at units words k d)
   pub wait : (k : ℕ) (d : TimedUnit) → place ≤ k → k < length units → Waits machine (unit_at machine.config (first + k)) here there (sleeper_at units words k d)
   pub sent_so_far : sent ≡ sent_by machine here until first place
   pub links_so_far : links ≡ links_after machine.config here until first place old
@@ -42,7 +42,7 @@ taken-none machine first here there until units words sent links within count h 
       units_count = refl;
       words_count = count;
       within = omega arith;
-      gone = λ k d l. absurd (omega (arith, l));
+      has_run = λ k d l. absurd (omega (arith, l));
       wait = λ k d l m. h k d m;
       sent_so_far = none;
       links_so_far = after-none machine.config here until first links;
@@ -50,21 +50,21 @@ taken-none machine first here there until units words sent links within count h 
 
 -- a unit that is passed over has gone over the span too, untouched: its word is not before the end
 passed-one : (machine : Machine) (first count here there until : ℕ) (units : List TimedUnit) (words : List ℕ) (sent : List Message) (old links : InFlight) (place : ℕ) → here ≤ until
-    → AllBrought machine first count here there until old → place < count → until ≤ get_or words place 0
+    → HoldInboxes machine first count here there until old → place < count → until ≤ get_or words place 0
     → AreTaken machine first count here there until units words sent old links place → AreTaken machine first count here there until units words sent old links (suc place)
-passed-one machine first count here there until units words sent old links place l brought inside w h =
+passed-one machine first count here there until units words sent old links place l holds_inbox inside w h =
     record {
       exist = h.exist;
       units_count = h.units_count;
       words_count = h.words_count;
       within = omega (arith, inside);
-      gone = λ k d m. goes k d (omega (arith, m)) (cases_lt k place);
+      has_run = λ k d m. goes k d (omega (arith, m)) (cases_lt k place);
       wait = λ k d m less. h.wait k d (omega (arith, m)) less;
       sent_so_far = h.sent_so_far
           ∙ sym (append-nil (sent_by machine here until first place))
           ∙ ap (λ z. sent_by machine here until first place ++ z) (sym (fresh-is machine here until (first + place) [] (on some).sent))
           ∙ sym (sent-more machine here until first place);
-      links_so_far = h.links_so_far ∙ left-alone machine first here there until place old (sleeper_at units words place some) l (brought place inside) w (h.wait place some (omega arith) there_is);
+      links_so_far = h.links_so_far ∙ left-alone machine first here there until place old (sleeper_at units words place some) l (holds_inbox place inside) w (h.wait place some (omega arith) there_is);
     }
   where
     there_is : place < length units
@@ -74,36 +74,36 @@ passed-one machine first count here there until units words sent old links place
     exists = exists-at machine.config (first + place) (omega (arith, inside, h.exist))
 
     some : TimedUnit
-    some = some-unit units (omega (arith, there_is))
+    some = some-of units (omega (arith, there_is))
 
     on : (d : TimedUnit) → HasGoneOn machine (unit_at machine.config (first + place)) here there until (sleeper_at units words place d) []
-    on d = untouched machine (unit_at machine.config (first + place)) here there until (sleeper_at units words place d) exists l (brought place inside).known w (h.wait place d (omega arith) there_is)
+    on d = untouched machine (unit_at machine.config (first + place)) here there until (sleeper_at units words place d) exists l (holds_inbox place inside).known w (h.wait place d (omega arith) there_is)
 
     goes : (k : ℕ) (d : TimedUnit) → k ≤ place → (k < place) ⊎ (place ≤ k) → Waits machine (unit_at machine.config (first + k)) until there (sleeper_at units words k d)
-    goes k d m (inl e) = h.gone k d e
+    goes k d m (inl e) = h.has_run k d e
     goes k d m (inr e) =
         let same : place ≡ k = omega (arith, m, e) in
         subst (λ i. Waits machine (unit_at machine.config (first + i)) until there (sleeper_at units words i d)) same (on d).waits
 
 passed-some : (machine : Machine) (first count here there until : ℕ) (units : List TimedUnit) (words : List ℕ) (sent : List Message) (old links : InFlight) (from : ℕ) → here ≤ until
-    → AllBrought machine first count here there until old → AreTaken machine first count here there until units words sent old links from → (n : ℕ) → from + n ≤ count
+    → HoldInboxes machine first count here there until old → AreTaken machine first count here there until units words sent old links from → (n : ℕ) → from + n ≤ count
     → ((k : ℕ) → from ≤ k → k < from + n → until ≤ get_or words k 0) → AreTaken machine first count here there until units words sent old links (from + n)
-passed-some machine first count here there until units words sent old links from l brought h zero within sleep =
+passed-some machine first count here there until units words sent old links from l holds_inbox h zero within sleep =
     subst (AreTaken machine first count here there until units words sent old links) (sym (add-zero from)) h
-passed-some machine first count here there until units words sent old links from l brought h (suc n) within sleep =
+passed-some machine first count here there until units words sent old links from l holds_inbox h (suc n) within sleep =
     let e : suc (from + n) ≡ from + suc n = omega arith in
-    let before = passed-some machine first count here there until units words sent old links from l brought h n (omega (arith, within)) (λ k m less. sleep k m (omega (arith, less))) in
+    let before = passed-some machine first count here there until units words sent old links from l holds_inbox h n (omega (arith, within)) (λ k m less. sleep k m (omega (arith, less))) in
     subst (AreTaken machine first count here there until units words sent old links) e
-    (passed-one machine first count here there until units words sent old links (from + n) l brought (omega (arith, within)) (sleep (from + n) (omega arith) (omega arith)) before)
+    (passed-one machine first count here there until units words sent old links (from + n) l holds_inbox (omega (arith, within)) (sleep (from + n) (omega arith) (omega arith)) before)
 
--- so have all between two places
+-- all units between two places that are passed over have gone over the span too
 pub passed-over : (machine : Machine) (first count here there until : ℕ) (units : List TimedUnit) (words : List ℕ) (sent : List Message) (old links : InFlight) (from to : ℕ) → here ≤ until
-    → AllBrought machine first count here there until old → AreTaken machine first count here there until units words sent old links from → from ≤ to → to ≤ length words
+    → HoldInboxes machine first count here there until old → AreTaken machine first count here there until units words sent old links from → from ≤ to → to ≤ length words
     → ((k : ℕ) → from ≤ k → k < to → until ≤ get_or words k 0) → AreTaken machine first count here there until units words sent old links to
-passed-over machine first count here there until units words sent old links from to l brought h m within sleep =
+passed-over machine first count here there until units words sent old links from to l holds_inbox h m within sleep =
     let e : from + (to - from) ≡ to = omega (arith, m) in
     subst (AreTaken machine first count here there until units words sent old links) e
-    (passed-some machine first count here there until units words sent old links from l brought h (to - from) (omega (arith, e, within, h.words_count)) (λ k o less. sleep k o (omega (arith, less, e))))
+    (passed-some machine first count here there until units words sent old links from l holds_inbox h (to - from) (omega (arith, e, within, h.words_count)) (λ k o less. sleep k o (omega (arith, less, e))))
 
 -- a unit that is woken
 pub taken-one : (machine : Machine) (first count here there until : ℕ) (units : List TimedUnit) (words : List ℕ) (sent holds : List Message) (old links after : InFlight) (place : ℕ) (unit : TimedUnit) (wake : ℕ)
@@ -116,14 +116,14 @@ taken-one machine first count here there until units words sent holds old links 
       units_count = length-set units place unit ∙ h.units_count;
       words_count = length-set words place wake ∙ h.words_count;
       within = omega (arith, inside, h.units_count);
-      gone = λ k d m. goes k d (omega (arith, m)) (cases_lt k place);
+      has_run = λ k d m. goes k d (omega (arith, m)) (cases_lt k place);
       wait = λ k d m less.
           let other : k ≢ place = omega (arith, m) in
           subst (Waits machine (unit_at machine.config (first + k)) here there) (sym (ap₂ sleeper (get_or-set_other units place k unit d other) (get_or-set_other words place k wake 0 other)))
           (h.wait k d (omega (arith, m)) (omega (arith, less, length-set units place unit)));
       sent_so_far = adds.added
           ∙ ap (λ z. z ++ adds.messages) h.sent_so_far
-          ∙ ap (λ z. sent_by machine here until first place ++ z) (sym (fresh-is machine here until (first + place) adds.messages adds.gone.sent))
+          ∙ ap (λ z. sent_by machine here until first place ++ z) (sym (fresh-is machine here until (first + place) adds.messages adds.has_run.sent))
           ∙ sym (sent-more machine here until first place)
           ∙ ap (sent_by machine here until first) (sym (add-one place));
       links_so_far = out ∙ ap {B = InFlight} (λ k. links_after machine.config here until first k old) (sym (add-one place));
@@ -134,21 +134,21 @@ taken-one machine first count here there until units words sent holds old links 
         let other : k ≢ place = omega (arith, e) in
         subst (Waits machine (unit_at machine.config (first + k)) until there)
         (sym (ap₂ sleeper (get_or-set_other units place k unit d other) (get_or-set_other words place k wake 0 other)))
-        (h.gone k d e)
+        (h.has_run k d e)
     goes k d m (inr e) =
         let same : k ≡ place = omega (arith, m, e) in
         let within : place < length words = omega (arith, inside, h.units_count, h.words_count) in
         subst (λ j. Waits machine (unit_at machine.config (first + j)) until there (sleeper_at (set units place unit) (set words place wake) k d)) (sym same)
         (subst (Waits machine (unit_at machine.config (first + place)) until there)
         (sym (ap₂ sleeper (get_or-set_at units place k unit d same inside) (get_or-set_at words place k wake 0 same within)))
-        adds.gone.waits)
+        adds.has_run.waits)
 
 -- when all are taken
 pub taken-all : (machine : Machine) (first count here there until : ℕ) (units : List TimedUnit) (words : List ℕ) (sent : List Message) (old links : InFlight) (place : ℕ)
     → AreTaken machine first count here there until units words sent old links place → length units ≤ place
     → WaitAll machine first until there units words × (links ≡ links_after machine.config here until first count old) × (sent ≡ sent_by machine here until first count)
 taken-all machine first count here there until units words sent old links place h l = (
-  λ k d less. h.gone k d (omega (arith, less, l)),
+  λ k d less. h.has_run k d (omega (arith, less, l)),
   h.links_so_far ∙ ap {B = InFlight} (λ n. links_after machine.config here until first n old) end,
   h.sent_so_far ∙ ap (sent_by machine here until first) end,
 )

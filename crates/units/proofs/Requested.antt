@@ -15,7 +15,7 @@ use Rattle.sim_base.specs.History.{below, issued_commands, inbox, commands}
 use Rattle.sim_base.specs.MachineStep.{MachineStep}
 use Rattle.sim_base.specs.Scheduling.{request_in, source_of}
 use Rattle.sim_base.proofs.Each.{Each-filter}
-use Rattle.sim_base.proofs.Spans.{length-run}
+use Rattle.sim_base.proofs.Spans.{length_run}
 use Rattle.command_table.specs.Tables.{rows_in}
 use Rattle.command_table.proofs.Rising.{by_cycle-same}
 use Rattle.channel_step.specs.Channels.{KeepsServed}
@@ -105,7 +105,7 @@ unfolding by_cycle
 requests-are machine now =
     let history = run_of machine now in
     let served = filter_map (served_in_run machine.config history) (commands history) in
-    let long : length history ≡ now = length-run machine.config machine.traces.items now in
+    let long : length history ≡ now = length_run machine.config machine.traces.items now in
     let stand : AreServed 0 now served = subst (λ n. AreServed 0 n served) long (are_by_cycle machine.config history) in
     let same : by_cycle now (served ∷ []) ≡ by_cycle now (served_below machine now machine.config.channels) =
     flat-same (served_at (served ∷ [])) (served_at (served_below machine now machine.config.channels)) 0 now (λ t l. append-nil (at t served) ∙ cycle-is machine now t) in

@@ -6,7 +6,7 @@ use Rattle.sim_base.specs.declared.message.Message.{Message}
 use Rattle.sim_base.specs.declared.message.Unit.{Unit as MachineUnit}
 use Rattle.sim_base.specs.declared.message.Unit.TheVariants as unit
 use Rattle.sim_base.specs.declared.command.IssuedCommand.{IssuedCommand}
-use Rattle.sim_base.proofs.Spans.{length-run}
+use Rattle.sim_base.proofs.Spans.{length_run}
 use Rattle.statistics.proofs.Replies.{length-steps_of_core}
 use Rattle.channel_step.specs.Runs.{with_more, CanRun}
 use Rattle.channel_step.specs.declared.channel.Channel.{Channel}
@@ -23,7 +23,7 @@ use Rattle.units.specs.declared.part.UnitState.TheVariants as part
 
 pub core-at : (machine : Machine) (unit : MachineUnit) (c : Box Core Global) (inbox : List Message) (from until : ℕ)
     → IsReadyFor machine unit (part.Core c) inbox from until → c.value.cycle ≡ from
-core-at machine (unit.Core core) c inbox from until h = h.stands.now ∙ length-steps_of_core core (run_of machine from) ∙ length-run machine.config machine.traces.items from
+core-at machine (unit.Core core) c inbox from until h = h.stands.now ∙ length-steps_of_core core (run_of machine from) ∙ length_run machine.config machine.traces.items from
 core-at machine (unit.Channel channel) c inbox from until h = absurd h.stands
 
 pub core-may_run : (machine : Machine) (unit : MachineUnit) (c : Box Core Global) (inbox : List Message) (from until : ℕ)

@@ -5,7 +5,7 @@ use Rattle.std.proofs.lemmas.Bool.{cond-true, cond-false, and_parts}
 use Rattle.std.proofs.lemmas.Bool.Decides.{nat_tests}
 use Rattle.sim_base.specs.declared.config.Config.{Config}
 use Rattle.sim_base.specs.Counts.{in_flight}
-use Rattle.sim_base.specs.History.{is_unit, insert_by_age, messages}
+use Rattle.sim_base.specs.History.{is_unit, insert_by_age, messages, receiver_of}
 use Rattle.sim_base.specs.Locality.{TravelsFor}
 use Rattle.sim_base.specs.Machine.{run}
 use Rattle.sim_base.specs.declared.message.Message.{Message}
@@ -18,9 +18,9 @@ use Rattle.sim_base.proofs.Lists.{filter-each}
 use Rattle.units.proofs.SpanLaws.Flights.{not_before, in_flight-late}
 use Rattle.units.proofs.SpanLaws.Lists.{Sorted-filter}
 use Rattle.units.specs.SpanLaws.Units.{Exists}
-use Rattle.links.specs.InFlight.{receiver_of, is_due}
+use Rattle.links.specs.InFlight.{is_due}
 use Rattle.units.specs.Flight.{is_at_places, goes_among, among}
-use Rattle.units.specs.Parts.{late}
+use Rattle.links.specs.Rings.{later_of}
 use Rattle.units.specs.Units.{unit_at, unit_count}
 use Rattle.units.proofs.Due.{same_unit, flight-each}
 use Rattle.units.specs.Wakes.{sent_in}
@@ -28,7 +28,7 @@ use Rattle.units.proofs.Filters.{filter-within}
 use Rattle.units.proofs.Joining.{join-flight}
 use Rattle.units.specs.declared.machine.Machine.{Machine}
 use Rattle.units.specs.Runs.{flight_at}
-use Rattle.units.proofs.Travelling.{Goes}
+use Rattle.units.proofs.SpanLaws.Later.{IsReceived}
 
 -- a unit of a place stands among places where the place is one of them
 pub at-places : (s : Config) (first past k : ℕ) → is_at_places s first past (unit_at s k) ≡ (leb first k && ltb k past)
@@ -70,7 +70,7 @@ pub among-all : (s : Config) (traces : List (List Entry)) (now : ℕ) → among 
 among-all s traces now =
     let ms = in_flight s traces (run s traces now) in
     filter-each (goes_among s 0 (unit_count s)) ms
-    (Each-weaker (λ (m : Message). Goes s m × (now ≤ m.arrival)) (λ (m : Message). goes_among s 0 (unit_count s) m ≡ true) (λ m h. goes-all s (receiver_of s.channels m.link) h.0) ms (flight-each s traces now))
+    (Each-weaker (λ (m : Message). IsReceived s m × (now ≤ m.arrival)) (λ (m : Message). goes_among s 0 (unit_count s) m ≡ true) (λ m h. goes-all s (receiver_of s.channels m.link) h.0) ms (flight-each s traces now))
 
 pub flight-sorted : (s : Config) (traces : List (List Entry)) (now : ℕ) → Sorted (in_flight s traces (run s traces now))
 flight-sorted s traces now =
@@ -79,10 +79,10 @@ flight-sorted s traces now =
 
 -- what is in flight to some units at the end of a phase is what was left for them and what was sent to them
 pub among-joins : (machine : Machine) (first past now until : ℕ) → now ≤ until → TravelsFor machine.config (until - now)
-    → fold insert_by_age (among machine.config first past (late until (flight_at machine now))) (among machine.config first past (sent_in machine now until))
+    → fold insert_by_age (among machine.config first past (later_of until (flight_at machine now))) (among machine.config first past (sent_in machine now until))
     ≡ among machine.config first past (flight_at machine until)
 among-joins machine first past now until l t =
-    let old = late until (flight_at machine now) in
+    let old = later_of until (flight_at machine now) in
     let new = sent_in machine now until in
     fold-puts (among machine.config first past old) (among machine.config first past new)
     ∙ sym (filter-puts (goes_among machine.config first past) old new (Sorted-filter (λ m. not (ltb m.arrival until)) _ (flight-sorted machine.config machine.traces.items now)))

@@ -10,7 +10,7 @@ use Rattle.std.proofs.lemmas.List.Elements.{All-from_recursion, filter-append}
 use Rattle.sim_base.specs.declared.config.Config.{Config}
 use Rattle.sim_base.specs.declared.command.IssuedCommand.{IssuedCommand}
 use Rattle.sim_base.specs.declared.trace.Entry.{Entry}
-use Rattle.sim_base.specs.History.{below, commands}
+use Rattle.sim_base.specs.History.{below, commands, commands_on, stands_before}
 use Rattle.sim_base.specs.Machine.{run}
 use Rattle.sim_base.proofs.Ordered.{Each-weaker}
 use Rattle.sim_base.proofs.Lists.{filter-both, filter-each, filter-none}
@@ -18,9 +18,8 @@ use Rattle.statistics.proofs.Lists.{map_below_more}
 use Rattle.command_table.specs.Tables.{IsRising, rows_in, HaveSameCycles, table_of}
 use Rattle.command_table.proofs.Rising.{rising-pairs, by_cycle-is}
 use Rattle.laws.specs.Commands.{history_of}
-use Rattle.laws.specs.Tables.{rows_on, stands_before}
 use Rattle.laws.proofs.Legal.{cycles_ascend}
-use Rattle.laws.proofs.Tabled.{rows_on-commands, tables_are_ordered}
+use Rattle.laws.proofs.Tabled.{commands_on-commands, tables_are_ordered}
 use Rattle.units.proofs.SpanLaws.Merged.{commands-within, Ordered, ordered-pairs}
 
 -- no row of the table of a run is of an earlier cycle than one before it
@@ -30,7 +29,7 @@ table-rises s traces now i j d a b = not-earlier (get_or (commands (run s traces
     not-earlier : (x y : IssuedCommand) → stands_before x y ≡ true → x.cycle ≤ y.cycle
     not-earlier x y h = grind (arith, nat_tests)
 
--- nor in the list of a channel
+-- no command in the list of a channel is of an earlier cycle than one before it
 list-rises : (s : Config) (traces : List (List Entry)) (now channel : ℕ) → IsRising (history_of s traces now channel)
 list-rises s traces now channel i j d a b = let h = cycles_ascend s traces now channel i j d a b in omega (arith, h)
 
@@ -47,7 +46,8 @@ record Falls (p q r : IssuedCommand → Bool) : Type 0 where
   second : (x : IssuedCommand) → p x ≡ false → q x ≡ r x
   apart : (x y : IssuedCommand) → q x ≡ true → stands_before x y ≡ true → p y ≡ false
 
--- those of the first and then those of the second are those of either
+-- where no row of the first kind comes after one of the second, the rows of the first and then those of the second are
+-- those of either
 both-kinds : (p q r : IssuedCommand → Bool) → Falls p q r → (xs : List IssuedCommand) → Ordered xs → filter p xs ++ filter q xs ≡ filter r xs
 both-kinds p q r f [] o = refl
 both-kinds p q r f (x ∷ xs) o = by (p x) refl (q x) refl (both-kinds p q r f xs o.1)
@@ -88,8 +88,8 @@ falls k n =
     later : (x y : IssuedCommand) → (eqb x.channel n && eqb x.cycle k) ≡ true → stands_before x y ≡ true → (ltb y.channel n && eqb y.cycle k) ≡ false
     later x y h g = grind (arith, nat_tests)
 
--- one channel more
-more-channels : (k n : ℕ) (xs : List IssuedCommand) → Ordered xs → rows_in k (lower n xs) ++ rows_in k (rows_on n xs) ≡ rows_in k (lower (n + 1) xs)
+-- the rows of the channels below a number, with one channel more
+more-channels : (k n : ℕ) (xs : List IssuedCommand) → Ordered xs → rows_in k (lower n xs) ++ rows_in k (commands_on n xs) ≡ rows_in k (lower (n + 1) xs)
 more-channels k n xs o =
     let in_cycle = λ (x : IssuedCommand). eqb x.cycle k in
     ap₂ (λ u v. u ++ v) (sym (filter-both in_cycle (λ (x : IssuedCommand). ltb x.channel n) _ (λ x. refl) xs)) (sym (filter-both in_cycle (λ (x : IssuedCommand). eqb x.channel n) _ (λ x. refl) xs))
@@ -100,7 +100,7 @@ more-channels k n xs o =
 abbrev pub lists_below : Config → List (List Entry) → ℕ → ℕ → List (List IssuedCommand)
 lists_below s traces now n = map (history_of s traces now) (below n)
 
--- one behind the other, in each cycle
+-- the lists of the channels below a number, one behind the other, hold the rows of each cycle in their order
 lower-rows : (s : Config) (traces : List (List Entry)) (now n : ℕ) → n ≤ s.channels → HaveSameCycles (flat_map (λ rows. rows) (lists_below s traces now n)) (lower n (commands (run s traces now)))
 lower-rows s traces now zero l k = ap (rows_in k) (sym (none (commands (run s traces now))))
   where
@@ -118,7 +118,7 @@ lower-rows s traces now (suc n) l k =
     ap (flat_map (λ rows. rows)) (map_below_more (history_of s traces now) n) ∙ flat_map-append (λ rows. rows) lists (own ∷ []) ∙ ap (λ z. flat_map (λ rows. rows) lists ++ z) (append-nil own) in
     ap (rows_in k) more
     ∙ filter-append (λ (x : IssuedCommand). eqb x.cycle k) (flat_map (λ rows. rows) lists) own
-    ∙ ap₂ (λ u v. u ++ v) (lower-rows s traces now n (omega arith) k) (ap (rows_in k) (sym (rows_on-commands s traces n (omega arith) now)))
+    ∙ ap₂ (λ u v. u ++ v) (lower-rows s traces now n (omega arith) k) (ap (rows_in k) (sym (commands_on-commands s traces n (omega arith) now)))
     ∙ more-channels k n all (ordered-pairs all (tables_are_ordered s traces now))
     ∙ ap (λ m. rows_in k (lower m all)) (add-one n)
 

@@ -1,33 +1,28 @@
--- What units send in the cycles of a run from one on.
-use Rattle.std.proofs.Common.{◌≡◌, ℕ, zero, suc, ◌+◌, ◌-◌, ◌<◌, ◌≤◌, List, [], ◌∷◌, ◌++◌, length, Option, Some, None, sym, ap, subst, ◌∙◌, append_assoc, append-nil, add-zero, arith}
+-- What units send from a cycle of a run on.
+use Rattle.std.proofs.Common.{◌≡◌, ℕ, zero, suc, ◌+◌, ◌-◌, ◌<◌, ◌≤◌, List, [], ◌∷◌, ◌++◌, length, Option, sym, ap, subst, ◌∙◌, append_assoc, append-nil, add-zero, arith}
 use Rattle.std.specs.Option.{IfSome}
 use Rattle.std.specs.List.{AllByRecursion as Each}
 use Rattle.std.proofs.lemmas.List.{map-append}
 use Rattle.sim_base.specs.declared.config.Config.{Config}
 use Rattle.std.specs.Prelude.{filter}
 use Rattle.sim_base.specs.Counts.{is_in_flight, in_flight}
-use Rattle.sim_base.specs.History.{receiver, trace_of, steps_of_core, steps_of_channel, request, reply, credit, core_messages, requests_in, channel_messages, messages_of, messages_at, messages_of_core, messages_of_channel, messages, by_age}
+use Rattle.sim_base.specs.History.{trace_of, steps_of_core, steps_of_channel, core_messages, requests_in, channel_messages, messages_at, messages_of_core, messages_of_channel, by_age}
 use Rattle.sim_base.specs.Locality.{TravelsFor}
 use Rattle.sim_base.specs.Machine.{run, next_step}
-use Rattle.sim_base.specs.Places.{place_of}
 use Rattle.sim_base.specs.MachineStep.{MachineStep, step_of_core, step_of_channel}
 use Rattle.sim_base.specs.declared.command.Command.{Command}
-use Rattle.sim_base.specs.declared.command.Command.TheVariants.{Act, Rd, Wr, Pre, Prea, Ref}
 use Rattle.sim_base.specs.declared.history.CoreStep.{CoreStep}
 use Rattle.sim_base.specs.declared.message.Message.{Message}
 use Rattle.sim_base.specs.declared.message.Unit.TheVariants as unit
 use Rattle.sim_base.specs.declared.message.Unit.{Unit as MachineUnit}
 use Rattle.sim_base.specs.declared.trace.Entry.{Entry}
 use Rattle.sim_base.proofs.Added.{core_messages-push, channel_messages-push, requests_late, channel_late, ServesCoreBelow}
-use Rattle.sim_base.proofs.Each.{Each-append, Each-flat_map_below}
-use Rattle.sim_base.proofs.Made.{requests-each}
+use Rattle.sim_base.proofs.Each.{Each-append}
 use Rattle.sim_base.proofs.Served.{choice-below, inbox-below}
-use Rattle.sim_base.proofs.Spans.{length-run, step_of_channel-next, run-next}
-use Rattle.sim_base.specs.declared.message.Access.{Access}
+use Rattle.sim_base.proofs.Spans.{length_run, step_of_channel-next, run-next}
 use Rattle.sim_base.proofs.Grows.{has_channels}
 use Rattle.statistics.proofs.Replies.{length-steps_of_core}
 use Rattle.laws.proofs.Legal.{length-channel_steps_of}
-use Rattle.laws.proofs.Receivers.{receiver_request, receiver_reply, receiver_credit, place_in}
 use Rattle.laws.proofs.Sent.{messages-none}
 use Rattle.units.specs.SpanLaws.Units.{Exists, sent_of}
 
@@ -72,7 +67,7 @@ core-added s traces P from core h (suc m) =
     let history = run s traces (from + m) in
     let machine_step = next_step s traces history in
     let rows = steps_of_core core history in
-    let e : length rows ≡ from + m = length-steps_of_core core history ∙ length-run s traces (from + m) in
+    let e : length rows ≡ from + m = length-steps_of_core core history ∙ length_run s traces (from + m) in
     added-then P _ _ _ (requests_in s core (trace_of traces core) (rows ++ step_of_core core machine_step ∷ []) (length rows)) (core-added s traces P from core h m)
     (ap (λ x. messages_of_core s traces x core) (run-next s traces from m) ∙ core-pushed s traces core history machine_step)
     (h (rows ++ step_of_core core machine_step ∷ []) (length rows) (omega (arith, e)))
@@ -109,45 +104,6 @@ late-added s traces from until (unit.Channel channel) l k t =
     let e : from + (until - from) ≡ until = omega arith in
     subst (λ i. Added (λ m. until ≤ m.arrival) (messages_of_channel s (run s traces from) channel) (messages_of_channel s (run s traces i) channel)) e
     (channel-added s traces (λ m. until ≤ m.arrival) from channel l (λ cycle o h c. channel_late s channel cycle (until - from) until l t (omega arith) o c) (until - from))
-
--- each message goes to a unit of the machine
-abbrev pub Goes : Config → Message → Type 0
-Goes s m = Exists s (receiver s m.link)
-
-request-goes : (s : Config) (core cycle entry : ℕ) (access : Access) (address : ℕ) → core < s.cores → Goes s (request s core cycle entry access address)
-unfolding request
-request-goes s core cycle entry access address l =
-    subst (Exists s) (sym (receiver_request s core (place_of s address).channel (place_in s address))) (place_in s address)
-
-reply-goes : (s : Config) (channel cycle : ℕ) → channel < s.channels → (o : Option Command) → IfSome o (ServesCoreBelow s.cores) → Each (Goes s) (messages_at s channel cycle o)
-unfolding messages_of reply credit
-reply-goes s channel cycle l None c = tt
-reply-goes s channel cycle l (Some (Rd bank row column source)) c =
-    (subst (Exists s) (sym (receiver_reply s source.core channel l)) c, (subst (Exists s) (sym (receiver_credit s source.core channel l)) c, tt))
-reply-goes s channel cycle l (Some (Wr bank row column source)) c = (subst (Exists s) (sym (receiver_credit s source.core channel l)) c, tt)
-reply-goes s channel cycle l (Some (Act bank row source)) c = tt
-reply-goes s channel cycle l (Some (Pre bank source)) c = tt
-reply-goes s channel cycle l (Some (Prea rank)) c = tt
-reply-goes s channel cycle l (Some (Ref rank)) c = tt
-
-channel-goes : (s : Config) (traces : List (List Entry)) (n channel : ℕ) → channel < s.channels → Each (Goes s) (messages_of_channel s (run s traces n) channel)
-unfolding run messages_of_channel steps_of_channel channel_messages
-channel-goes s traces n channel l =
-    let a = channel-added s traces (Goes s) 0 channel l (λ cycle o h c. reply-goes s channel cycle l o c) n in
-    let e : 0 + n ≡ n = omega arith in
-    subst (λ i. Each (Goes s) (messages_of_channel s (run s traces i) channel)) e (subst (Each (Goes s)) (sym a.are) a.each)
-
-core-goes : (s : Config) (traces : List (List Entry)) (n core : ℕ) → core < s.cores → Each (Goes s) (messages_of_core s traces (run s traces n) core)
-unfolding messages_of_core
-core-goes s traces n core l =
-    requests-each s (Goes s) (λ c cycle entry access address k. request-goes s c cycle entry access address k) core l (trace_of traces core) (steps_of_core core (run s traces n))
-
-pub all-go : (s : Config) (traces : List (List Entry)) (n : ℕ) → Each (Goes s) (messages s traces (run s traces n))
-unfolding messages
-all-go s traces n =
-    Each-append (Goes s) _ _
-    (Each-flat_map_below (Goes s) (messages_of_core s traces (run s traces n)) s.cores (λ core l. core-goes s traces n core l))
-    (Each-flat_map_below (Goes s) (messages_of_channel s (run s traces n)) s.channels (λ channel l. channel-goes s traces n channel l))
 
 pub none_in_flight : (s : Config) (traces : List (List Entry)) → in_flight s traces (run s traces 0) ≡ []
 unfolding run in_flight by_age

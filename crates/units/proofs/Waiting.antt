@@ -7,7 +7,7 @@ use Rattle.std.proofs.lemmas.Bool.Decides.{nat_tests}
 use Rattle.std.proofs.lemmas.List.{append-nil}
 use Rattle.sim_base.specs.declared.config.Config.{Config}
 use Rattle.sim_base.specs.Counts.{in_flight}
-use Rattle.sim_base.specs.History.{is_unit, trace_of, core_messages, channel_messages, inbox}
+use Rattle.sim_base.specs.History.{is_unit, trace_of, core_messages, channel_messages, inbox, receiver_of}
 use Rattle.sim_base.specs.Locality.{TravelsFor}
 use Rattle.sim_base.specs.Machine.{run}
 use Rattle.sim_base.specs.declared.message.Message.{Message}
@@ -23,7 +23,7 @@ use Rattle.core_window.specs.CoreViews.{view_of}
 use Rattle.core_window.specs.Rests.{Rests}
 use Rattle.core_window.specs.Silence.{KeepsSilent}
 use Rattle.core_window.specs.declared.core_unit.Core.{Core as CoreUnit}
-use Rattle.links.specs.InFlight.{is_due, receiver_of}
+use Rattle.links.specs.InFlight.{is_due}
 use Rattle.units.specs.SpanLaws.Cores.{core_steps_of}
 use Rattle.units.specs.SpanLaws.Mail.{arriving, mail_before, mail_in}
 use Rattle.units.specs.SpanLaws.Quiet.{RestsAlone, IsSilent}
@@ -41,7 +41,7 @@ use Rattle.units.specs.declared.part.UnitState.TheVariants as part
 use Rattle.units.proofs.Resting.{rests-in_none}
 use Rattle.units.specs.declared.machine.Machine.{Machine}
 use Rattle.units.specs.Runs.{run_of, sent_at}
-use Rattle.units.specs.Wakes.{Sleeper, Waits, IsKnown, HasGoneOn}
+use Rattle.units.specs.Wakes.{Sleeper, Waits, IsInboxKnown, HasGoneOn}
 
 -- who rests is silent
 pub rests-silent : (s : Config) (traces : List (List Entry)) (from until : ℕ) (u : MachineUnit) → RestsAlone s traces from until u → IsSilent s traces from until u
@@ -59,18 +59,18 @@ rests-silent s traces from until (Channel channel) h = λ n l.
     ∙ idle-messages s channel steps n
 
 -- what arrives up to the end of a phase is known at its beginning
-pub known-phase : (machine : Machine) (now until : ℕ) (u : MachineUnit) → now ≤ until → TravelsFor machine.config (until - now) → IsKnown machine now until u
+pub known-phase : (machine : Machine) (now until : ℕ) (u : MachineUnit) → now ≤ until → TravelsFor machine.config (until - now) → IsInboxKnown machine now until u
 known-phase machine now until u l t =
     let e : until ≡ now + (until - now) = omega arith in
     ap (λ i. arrived (inbox machine.config machine.traces.items (run_of machine i) u) until) e ∙ inbox-run machine.config machine.traces.items now (until - now) u until (has_channels machine.config) t (omega arith) (until - now)
 
 -- what is known up to a cycle is known up to each before it
-pub known-sooner : (machine : Machine) (there here until : ℕ) (u : MachineUnit) → here ≤ until → IsKnown machine there until u → IsKnown machine there here u
+pub known-sooner : (machine : Machine) (there here until : ℕ) (u : MachineUnit) → here ≤ until → IsInboxKnown machine there until u → IsInboxKnown machine there here u
 known-sooner machine there here until u l h =
     sym (mail-settled machine.config machine.traces.items here until u l) ∙ arrived-sooner here until l (inbox machine.config machine.traces.items (run_of machine until) u) (inbox machine.config machine.traces.items (run_of machine there) u) h
 
--- so is what arrives in a span
-pub known-mail : (machine : Machine) (there from until : ℕ) (u : MachineUnit) → IsKnown machine there until u → mail_in machine.config machine.traces.items until u from until ≡ mail_in machine.config machine.traces.items there u from until
+-- where what arrives before a cycle is known, what arrives in a span up to there is known
+pub known-mail : (machine : Machine) (there from until : ℕ) (u : MachineUnit) → IsInboxKnown machine there until u → mail_in machine.config machine.traces.items until u from until ≡ mail_in machine.config machine.traces.items there u from until
 known-mail machine there from until u h =
     sym (arriving-arrived from until (inbox machine.config machine.traces.items (run_of machine until) u)) ∙ ap (arriving from until) h ∙ arriving-arrived from until (inbox machine.config machine.traces.items (run_of machine there) u)
 
@@ -78,15 +78,16 @@ known-mail machine there from until u h =
 pub waits-none : (machine : Machine) (u : MachineUnit) (here there : ℕ) (sleeper : Sleeper) → Waits machine u here there sleeper → mail_in machine.config machine.traces.items there u sleeper.at here ≡ []
 waits-none machine u here there sleeper h = none-part machine.config machine.traces.items there sleeper.at sleeper.wake sleeper.at here u (omega arith) h.ahead h.may.none
 
--- it has sent nothing since the cycle where it stands
-pub waits-sent : (machine : Machine) (u : MachineUnit) (here there : ℕ) (sleeper : Sleeper) → Exists machine.config u → IsKnown machine there here u → Waits machine u here there sleeper
+-- a unit that waits has sent nothing since the cycle where it stands
+pub waits-sent : (machine : Machine) (u : MachineUnit) (here there : ℕ) (sleeper : Sleeper) → Exists machine.config u → IsInboxKnown machine there here u → Waits machine u here there sleeper
     → sent_at machine here u ≡ sent_at machine sleeper.at u
 waits-sent machine u here there sleeper k known h =
     silent-sent machine.config machine.traces.items sleeper.at here u k h.behind (silent-sooner machine.config machine.traces.items sleeper.at here sleeper.wake u h.ahead h.may.silent)
     (known-mail machine there sleeper.at here u known ∙ waits-none machine u here there sleeper h)
 
--- it goes on, untouched, up to a cycle that is not past its word: it sends nothing, and nothing arrives at it
-pub untouched : (machine : Machine) (u : MachineUnit) (here there until : ℕ) (sleeper : Sleeper) → Exists machine.config u → here ≤ until → IsKnown machine there until u
+-- a unit that waits goes on, untouched, up to a cycle that is not past its word: it sends nothing, and nothing arrives
+-- at it
+pub untouched : (machine : Machine) (u : MachineUnit) (here there until : ℕ) (sleeper : Sleeper) → Exists machine.config u → here ≤ until → IsInboxKnown machine there until u
     → until ≤ sleeper.wake → Waits machine u here there sleeper → HasGoneOn machine u here there until sleeper []
 untouched machine u here there until sleeper k l known w h =
     let none : mail_in machine.config machine.traces.items until u sleeper.at until ≡ [] =
@@ -105,7 +106,7 @@ untouched-none machine u here there until sleeper w h = none-part machine.config
 -- a unit that is woken is run from its own cycle, however far back that is, with what arrives at it from where its kind
 -- stands
 pub woken-ready : (machine : Machine) (u : MachineUnit) (here there until : ℕ) (sleeper : Sleeper) (inbox : List Message) → Exists machine.config u → here ≤ until → until ≤ 10 ^ 12
-    → IsKnown machine there until u → Waits machine u here there sleeper → inbox ≡ mail_in machine.config machine.traces.items there u here until → IsReadyFor machine u sleeper.part inbox sleeper.at until
+    → IsInboxKnown machine there until u → Waits machine u here there sleeper → inbox ≡ mail_in machine.config machine.traces.items there u here until → IsReadyFor machine u sleeper.part inbox sleeper.at until
 woken-ready machine u here there until sleeper mail k l early known h e =
     record {
       exists = k;
@@ -128,11 +129,11 @@ span-none until (m ∷ ms) = go (leb until m.arrival && ltb m.arrival until) ref
     go true e rest = let bad : true ≡ false = sym e ∙ empty-span until m.arrival e in cc
     go false e rest = rest
 
--- and it then stands at the end of the span
-pub woken-gone : (machine : Machine) (u : MachineUnit) (here there until : ℕ) (before after : Sleeper) (sent : List Message) → Exists machine.config u → here ≤ until → IsKnown machine there until u
+-- a unit that is woken, and run from its own cycle, then stands at the end of the span
+pub woken-has_run : (machine : Machine) (u : MachineUnit) (here there until : ℕ) (before after : Sleeper) (sent : List Message) → Exists machine.config u → here ≤ until → IsInboxKnown machine there until u
     → Waits machine u here there before → HasRun machine u before.at until after.part sent → after.at ≡ until → until ≤ after.wake → IsSilent machine.config machine.traces.items until after.wake u
     → mail_in machine.config machine.traces.items there u until after.wake ≡ [] → HasGoneOn machine u here there until after sent
-woken-gone machine u here there until before after sent k l known h ran at w silent none =
+woken-has_run machine u here there until before after sent k l known h ran at w silent none =
     record {
       waits = record {
         behind = omega (arith, at);
@@ -158,7 +159,7 @@ acts-silent machine u from word h l = rests-silent machine.config machine.traces
 pub acts-silent_then : (machine : Machine) (u : MachineUnit) (from act : ℕ) → IsNextActOf machine u from (Some act) → IsSilent machine.config machine.traces.items from act u
 acts-silent_then machine u from act h = rests-silent machine.config machine.traces.items from act u (h.rests act h.since (omega arith))
 
--- so is the cycle itself, or the last of all words
+-- a unit is silent before the word that it tells: its next act, or where there is none the last of all words
 pub word-silent : (machine : Machine) (u : MachineUnit) (from most : ℕ) (next : Option ℕ) → IsNextActOf machine u from next → from ≤ most → IsSilent machine.config machine.traces.items from (unwrap_or next most) u
 word-silent machine u from most None h l = acts-silent machine u from most h l
 word-silent machine u from most (Some act) h l = acts-silent_then machine u from act h

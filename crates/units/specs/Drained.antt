@@ -1,7 +1,7 @@
 -- The end of a run, as its units and links show it.
 --     HasFinished machine now unit      a core has retired its trace, or a channel has no request left in its queue
---     AllFinished machine now      so has each unit
---     GoesOn machine from until      a run is not over before a cycle of a span
+--     AllFinished machine now      each core has retired its trace, and no channel has a request left in its queue
+--     StillRuns machine from until      a run is not over before a cycle of a span
 --     NotEnded machine from until      a run does not end before a cycle of a span
 use Rattle.std.specs.Prelude.{◌≡◌, ℕ, ◌<◌, ◌≤◌, false, [], length}
 use Rattle.sim_base.specs.Final.{queue_left}
@@ -25,15 +25,16 @@ HasFinished machine now (Channel channel) =
     let arrived = mail_before machine.config machine.traces.items now (Channel channel) now in
     queue_left channel steps arrived ≡ []
 
--- so it is with each unit
+-- before a cycle of a run each core has retired its trace, and no channel has a request left in its queue
 abbrev pub AllFinished : Machine → ℕ → Type 0
 AllFinished machine now =
     (place : ℕ) → place < unit_count machine.config → HasFinished machine now (unit_at machine.config place)
 
--- a run is not over before any of the cycles from one on and before another
-abbrev pub GoesOn : Machine → ℕ → ℕ → Type 0
-GoesOn machine from until = (t : ℕ) → from ≤ t → t < until → is_over_at machine t ≡ false
+-- a run is not over before any cycle from `from` up to `until`
+abbrev pub StillRuns : Machine → ℕ → ℕ → Type 0
+StillRuns machine from until = (t : ℕ) → from ≤ t → t < until → is_over_at machine t ≡ false
 
--- a run does not end before any of these cycles: it is not over, or it goes on up to the limit all the same
+-- a run does not end before any cycle from `from` up to `until`: it is not over, or it goes on up to the limit all the
+-- same
 abbrev pub NotEnded : Machine → ℕ → ℕ → Type 0
 NotEnded machine from until = (t : ℕ) → from ≤ t → t < until → ends_at machine t ≡ false

@@ -1,25 +1,25 @@
 -- Units of a kind that go on over a span, while those that send to them stand.
 --     WaitsAt machine place span sleeper      the unit at a place waits where the span begins
---     WaitsNow machine place now sleeper      it waits where all units stand
---     IsBroughtTo machine place span links      the links hold what arrives at it up to the end of the span
---     MayBeWoken machine place span unit      a unit waits there with some word
---     MayBeBroughtUp machine place now unit      so does one where all units stand
---     links_taken machine place span links      the links when it has taken what arrives at it in the span
---     GoesOnOver machine place span sleeper old new      it has gone on, and what it sent is put at the end of a list
---     WaitAllAt, WaitAllPast, AllBroughtTo, links_taken_by, sent_over      the same of units at places from one on
+--     WaitsNow machine place now sleeper      the unit at a place waits where all units stand
+--     HoldsInboxOver machine place span links      the links hold what arrives at the unit at a place in a span
+--     MayBeWoken machine place span unit      the unit at a place waits where the span begins, with some word
+--     MayBeBroughtUp machine place now unit      the unit at a place waits where all units stand, with some word
+--     links_taken machine place span links      the links when the unit at a place has taken what arrives in a span
+--     GoesOnOver machine place span sleeper old new      the unit at a place has gone on, and what it sent is added
+--     WaitAllAt, WaitAllPast, HoldInboxesOver, links_taken_by, sent_over      the same of all units of a range
 --     NothingArrives links unit from until      no message in flight arrives at a unit in a span
---     IsReceiver s link place, HasNoReceiver s link      the place of the unit that a link leads to; and that there is none
---     GrowsBy count old new      so many elements are put at the end of a list
+--     IsReceiver s link place, HasNoReceiver s link      the place of the unit that a link leads to; there is none
+--     GrowsBy count old new      `count` elements are put at the end of a list
 use Rattle.std.specs.Prelude.{◌≡◌, ℕ, ◌+◌, ◌<◌, ◌≤◌, false, List, [], length, filter, not}
 use Rattle.sim_base.specs.declared.config.Config.{Config}
 use Rattle.sim_base.specs.declared.message.Message.{Message}
 use Rattle.sim_base.specs.declared.message.Unit.{Unit as MachineUnit}
-use Rattle.sim_base.specs.History.{is_unit}
-use Rattle.links.specs.InFlight.{InFlight, is_due, receiver_of}
+use Rattle.sim_base.specs.History.{is_unit, receiver_of}
+use Rattle.links.specs.InFlight.{InFlight, is_due}
 use Rattle.units.specs.Flight.{sent_by}
 use Rattle.units.specs.Units.{unit_at, unit_count}
 use Rattle.units.specs.declared.machine.Machine.{Machine}
-use Rattle.units.specs.Wakes.{Sleeper, Waits, WaitAll, IsBrought, AllBrought, AddsWhatItSent, links_after, sleeper}
+use Rattle.units.specs.Wakes.{Sleeper, Waits, WaitAll, HoldsInbox, HoldInboxes, AddsWhatItSent, links_after, sleeper}
 use Rattle.units.specs.declared.timed_unit.TimedUnit.{TimedUnit}
 use Rattle.units.specs.declared.timed_unit.Span.{Span}
 use Rattle.units.specs.declared.waking.UnitRange.{UnitRange}
@@ -43,9 +43,9 @@ pub record MayBeBroughtUp (machine : Machine) (place now : ℕ) (unit : TimedUni
   pub waits : WaitsNow machine place now (sleeper unit word)
 
 -- the links hold what arrives at the unit at a place up to the end of a span
-abbrev pub IsBroughtTo : Machine → ℕ → Span → InFlight → Type 0
-IsBroughtTo machine place span links =
-    IsBrought machine span.here span.there span.until (unit_at machine.config place) links
+abbrev pub HoldsInboxOver : Machine → ℕ → Span → InFlight → Type 0
+HoldsInboxOver machine place span links =
+    HoldsInbox machine span.here span.there span.until (unit_at machine.config place) links
 
 -- the links when the unit at a place has taken what arrives at it in a span
 abbrev pub links_taken : Machine → ℕ → Span → InFlight → InFlight
@@ -58,31 +58,31 @@ abbrev pub GoesOnOver : Machine → ℕ → Span → Sleeper → List Message �
 GoesOnOver machine place span sleeper old new =
     AddsWhatItSent machine (unit_at machine.config place) span.here span.there span.until sleeper old new
 
--- units wait where a span begins
+-- the units of a range wait where a span begins
 abbrev pub WaitAllAt : Machine → Span → UnitRange → Type 0
 WaitAllAt machine span range =
     WaitAll machine range.first span.here span.there range.units.items range.words.items
 
--- units wait at the end of a span
+-- the units of a range wait at the end of a span
 abbrev pub WaitAllPast : Machine → Span → UnitRange → Type 0
 WaitAllPast machine span range =
     WaitAll machine range.first span.until span.there range.units.items range.words.items
 
--- the links hold what arrives at units up to the end of a span
-abbrev pub AllBroughtTo : Machine → Span → UnitRange → InFlight → Type 0
-AllBroughtTo machine span range links =
-    AllBrought machine range.first (length range.units.items) span.here span.there span.until links
+-- the links hold what arrives at the units of a range up to the end of a span
+abbrev pub HoldInboxesOver : Machine → Span → UnitRange → InFlight → Type 0
+HoldInboxesOver machine span range links =
+    HoldInboxes machine range.first (length range.units.items) span.here span.there span.until links
 
--- the links when units have taken what arrives at them in a span
+-- the links when the units of a range have taken what arrives at them in a span
 abbrev pub links_taken_by : Machine → Span → UnitRange → InFlight → InFlight
 links_taken_by machine span range links =
     links_after machine.config span.here span.until range.first (length range.units.items) links
 
--- what units send in a span
+-- what the units of a range send in a span
 abbrev pub sent_over : Machine → Span → UnitRange → List Message
 sent_over machine span range = sent_by machine span.here span.until range.first (length range.units.items)
 
--- no message in flight arrives at a unit from a cycle on and before another
+-- no message in flight arrives at a unit in the cycles from `from` up to `until`
 abbrev pub NothingArrives : InFlight → MachineUnit → ℕ → ℕ → Type 0
 NothingArrives links unit from until =
     (word : ℕ) → word ≤ until → filter (is_due links.channels unit from word) links.messages ≡ []
@@ -96,6 +96,6 @@ abbrev pub HasNoReceiver : Config → ℕ → Type 0
 HasNoReceiver s link =
     (place : ℕ) → place < unit_count s → is_unit (receiver_of s.channels link) (unit_at s place) ≡ false
 
--- so many elements are put at the end of a list
+-- `count` elements are put at the end of a list
 abbrev pub GrowsBy : {A : Type 0} → ℕ → List A → List A → Type 0
 GrowsBy count old new = length new ≡ length old + count

@@ -1,14 +1,13 @@
 -- What the units of a simulator stand for, each for its part of one run.
 --     IsPart machine unit now part      a unit stands for its part of the first cycles of a run
---     IsReadyFor machine unit part inbox from until      a unit stands for its part of a run, and these messages arrive at it in a span
---     IsReady part inbox from until      the same for some run and some unit of it
---     HasRun machine unit from until part messages      a unit stands at the end of a span, and these are its messages in it
---     HasRunOnto machine unit from until part held holds      the same, with a list behind which they are put
+--     IsReadyFor machine unit part inbox from until      a unit stands for its part, and is sent these messages
+--     IsReady part inbox from until      a unit stands for its part of some run, and these messages arrive in a span
+--     HasRun machine unit from until part messages      a unit stands at the end of a span, and sent these in it
+--     HasRunOnto machine unit from until part held holds      a unit has run, and its messages are put behind a list
 --     IsPartAt machine place now part      the unit at a place stands for its part of a run
 --     StandAt machine now parts      units in their order stand for their parts
---     late cycle mail      the messages that arrive in a cycle or later
 --     IsSim machine now phase parts links      what holds of a simulator
-use Rattle.std.specs.Prelude.{◌≡◌, ℕ, ◌^◌, ◌≤◌, nat_lt, not, List, ◌++◌, length, filter, slice_get, Some, IfSome}
+use Rattle.std.specs.Prelude.{◌≡◌, ℕ, ◌^◌, ◌≤◌, List, ◌++◌, length, slice_get, Some, IfSome}
 use Rattle.sim_base.specs.declared.message.Message.{Message}
 use Rattle.sim_base.specs.declared.message.Unit.{Unit as MachineUnit}
 use Rattle.sim_base.specs.declared.message.Unit.TheVariants as unit
@@ -23,10 +22,11 @@ use Rattle.units.specs.declared.machine.Machine.{Machine}
 use Rattle.units.specs.declared.part.UnitState.{UnitState}
 use Rattle.units.specs.declared.part.UnitState.TheVariants as part
 
--- A unit stands for what the one with this number did in the cycles of a run before one. With a channel its commands
+-- A unit stands for what the one with this number did in the cycles of a run before `now`. With a channel its commands
 -- may be kept.
 abbrev pub IsPart : Machine → MachineUnit → ℕ → UnitState → Type 0
-IsPart machine (unit.Core core) now (part.Core c) = IsCoreAt machine.config machine.traces.items core now (view_of c.value)
+IsPart machine (unit.Core core) now (part.Core c) =
+    IsCoreAt machine.config machine.traces.items core now (view_of c.value)
 IsPart machine (unit.Channel channel) now (part.Channel c commands) =
     HasChannelAt machine channel now c.value × IfSome commands (λ rows. rows ≡ commands_at machine now channel)
 IsPart machine (unit.Core core) now (part.Channel c commands) = ⊥
@@ -70,10 +70,6 @@ IsPartAt machine place now part = IsPart machine (unit_at machine.config place) 
 abbrev pub StandAt : Machine → ℕ → List UnitState → Type 0
 StandAt machine now parts =
     (place : ℕ) (part : UnitState) → slice_get parts place ≡ Some part → IsPartAt machine place now part
-
--- the messages that arrive in a cycle or later
-abbrev pub late : ℕ → List Message → List Message
-late cycle mail = filter (λ m. not (nat_lt m.arrival cycle)) mail
 
 -- All units stand for their part of the first cycles of a run, and the messages in flight are those of this run.
 pub record IsSim (machine : Machine) (now phase : ℕ) (parts : List UnitState) (links : InFlight) : Type 0 where

@@ -3,7 +3,7 @@
 --     IsNextActOf machine unit from act      the first cycle in which a unit acts, if there is one
 --     IsInSomeRun part now      a unit stands for its part of some run
 --     MayRest machine from until unit      a unit would do nothing in a span, if nothing arrived at it
---     SendsNothing machine from until unit      it would send nothing
+--     SendsNothing machine from until unit      a unit would send nothing in a span, if nothing arrived at it
 use Rattle.std.specs.Prelude.{ℕ, suc, ◌≤◌, Option, Some, None}
 use Rattle.sim_base.specs.declared.message.Unit.{Unit as MachineUnit}
 use Rattle.units.specs.SpanLaws.Quiet.{RestsAlone, IsSilent}
@@ -11,15 +11,15 @@ use Rattle.units.specs.Parts.{IsPart}
 use Rattle.units.specs.declared.machine.Machine.{Machine}
 use Rattle.units.specs.declared.part.UnitState.{UnitState}
 
--- if nothing arrived from a cycle on, a unit would do nothing before another
+-- if nothing arrived from `from` on, a unit would do nothing before `until`
 abbrev pub MayRest : Machine → ℕ → ℕ → MachineUnit → Type 0
 MayRest machine from until unit = RestsAlone machine.config machine.traces.items from until unit
 
--- if nothing arrived from a cycle on, a unit would send nothing before another; it may retire and issue Plain entries
+-- if nothing arrived from `from` on, a unit would send nothing before `until`; it may retire and issue Plain entries
 abbrev pub SendsNothing : Machine → ℕ → ℕ → MachineUnit → Type 0
 SendsNothing machine from until unit = IsSilent machine.config machine.traces.items from until unit
 
--- if nothing arrives from a cycle on, a unit would do nothing before another, and something in it
+-- if nothing arrives from `from` on, a unit would do nothing before `act`, and something in `act`
 pub record IsFirstActOf (machine : Machine) (unit : MachineUnit) (from act : ℕ) : Type 0 where
   pub since : from ≤ act
   pub rests : (until : ℕ) → from ≤ until → until ≤ act → MayRest machine from until unit

@@ -1,18 +1,22 @@
 -- What a machine does in the first cycles of its run, and what it leaves.
---     run_of machine now      what all units do in each cycle before one
+--     run_of machine now      what all units do in each cycle before `now`
 --     flight_at machine now      the messages in flight before a cycle
---     links_at machine now      the links, with these messages
+--     links_at machine now      the links, with the messages in flight before a cycle
 --     sent_at machine now unit      what a unit has sent before a cycle
 --     is_over_at, ends_at machine now      the run is over before a cycle; and the configuration ends it there
---     stats_at, last_at machine now      the statistics of the cycles before one, and the state then
---     outcome_at tables machine now      both, with the tables that are asked for
+--     stats_at, last_at machine now      the statistics of the cycles before `now`, and the state then
+--     outcome_at tables machine now      the statistics and the state, with the tables that are asked for
 --     commands_at machine now channel      the commands of a channel before a cycle
 --     HasChannelAt machine channel now c      a channel stands for its part of the run
---     core_stats_at, channel_stats_at, core_last_at, channel_last_at machine now number      of one unit
---     due_at machine now channel rank, row_at machine now channel bank      of a rank and of a bank
---     each_core_stats, each_channel_stats, each_core_last, each_channel_last machine now      of each unit, by number
---     each_due machine now channel, rows_in_banks machine now channel banks      of each rank, and of some banks
---     open_rows_at machine now channel      of all banks
+--     core_stats_at, channel_stats_at machine now number      the statistics of one unit
+--     core_last_at, channel_last_at machine now number      the state of one unit
+--     due_at machine now channel rank      the refreshes due of a rank
+--     row_at machine now channel bank      the row that is open in a bank
+--     each_core_stats, each_channel_stats machine now      the statistics of each unit, by number
+--     each_core_last, each_channel_last machine now      the state of each unit, by number
+--     each_due machine now channel      the refreshes due of each rank, by number
+--     rows_in_banks machine now channel banks      the rows that are open in some banks
+--     open_rows_at machine now channel      the open rows of all banks of a channel
 use Rattle.std.specs.Prelude.{ℕ, Bool, List, Option, map, filter_map}
 use Rattle.sim_base.specs.Counts.{in_flight}
 use Rattle.sim_base.specs.Final.{banks}
@@ -24,7 +28,7 @@ use Rattle.sim_base.specs.declared.command.IssuedCommand.{IssuedCommand}
 use Rattle.sim_base.specs.declared.message.Message.{Message}
 use Rattle.sim_base.specs.declared.message.Unit.{Unit as MachineUnit}
 use Rattle.sim_base.specs.declared.place.BankId.{BankId}
-use Rattle.statistics.specs.Runs.{stats_of, stats_of_core, stats_of_channel, final_of, last_of_core, last_of_channel, row_of_bank}
+use Rattle.statistics.specs.Runs.{stats_of, stats_of_core, stats_of_channel, final_of, last_of_core, last_of_channel, open_row_of_bank}
 use Rattle.statistics.specs.Values.{RunStats, LastCore, LastChannel, LastState, RunOutcome}
 use Rattle.statistics.specs.declared.channels.ChannelStats.{ChannelStats}
 use Rattle.statistics.specs.declared.cores.CoreStats.{CoreStats}
@@ -39,7 +43,7 @@ use Rattle.sim_base.specs.Machine.{ends_before}
 use Rattle.units.specs.SpanLaws.Units.{sent_of}
 use Rattle.units.specs.declared.machine.Machine.{Machine}
 
--- what all units of a machine do in each cycle of its run before one
+-- what all units of a machine do in each cycle of its run before `now`
 abbrev pub run_of : Machine → ℕ → List MachineStep
 run_of machine now = run machine.config machine.traces.items now
 
@@ -71,31 +75,31 @@ commands_at machine now channel = history_of machine.config machine.traces.items
 abbrev pub HasChannelAt : Machine → ℕ → ℕ → Channel → Type 0
 HasChannelAt machine channel now c = IsChannelAt machine.config machine.traces.items channel now c
 
--- the statistics of the cycles before one
+-- the statistics of the cycles before `now`
 abbrev pub stats_at : Machine → ℕ → RunStats
 stats_at machine now = stats_of machine.config machine.traces.items (run_of machine now)
 
--- those of a core
+-- the statistics of a core over the cycles before `now`
 abbrev pub core_stats_at : Machine → ℕ → ℕ → CoreStats
 core_stats_at machine now core = stats_of_core machine.config machine.traces.items (run_of machine now) core
 
--- those of a channel
+-- the statistics of a channel over the cycles before `now`
 abbrev pub channel_stats_at : Machine → ℕ → ℕ → ChannelStats
 channel_stats_at machine now channel = stats_of_channel machine.config machine.traces.items (run_of machine now) channel
 
--- the state before a cycle of the run
+-- the state of the machine before a cycle of the run
 abbrev pub last_at : Machine → ℕ → LastState
 last_at machine now = final_of machine.config machine.traces.items (run_of machine now)
 
--- that of a core
+-- the state of a core before a cycle of the run
 abbrev pub core_last_at : Machine → ℕ → ℕ → LastCore
 core_last_at machine now core = last_of_core machine.config machine.traces.items (run_of machine now) core
 
--- that of a channel
+-- the state of a channel before a cycle of the run
 abbrev pub channel_last_at : Machine → ℕ → ℕ → LastChannel
 channel_last_at machine now channel = last_of_channel machine.config machine.traces.items (run_of machine now) channel
 
--- what the run leaves after the cycles before one, with the tables that are asked for
+-- what the run leaves after the cycles before `now`, with the tables that are asked for
 abbrev pub outcome_at : Tables → Machine → ℕ → RunOutcome
 outcome_at tables machine now = outcome_of tables machine.config machine.traces.items now
 
@@ -105,13 +109,13 @@ due_at machine now channel rank = due machine.config rank (commands_at machine n
 
 -- the row that is open in a bank of a channel before a cycle of the run, with the bank
 abbrev pub row_at : Machine → ℕ → ℕ → BankId → Option OpenRow
-row_at machine now channel bank = row_of_bank (commands_at machine now channel) bank
+row_at machine now channel bank = open_row_of_bank (commands_at machine now channel) bank
 
--- the statistics of each core, by number
+-- the statistics of each core over the cycles before `now`, by number
 abbrev pub each_core_stats : Machine → ℕ → List CoreStats
 each_core_stats machine now = map (core_stats_at machine now) (below machine.config.cores)
 
--- the statistics of each channel, by number
+-- the statistics of each channel over the cycles before `now`, by number
 abbrev pub each_channel_stats : Machine → ℕ → List ChannelStats
 each_channel_stats machine now = map (channel_stats_at machine now) (below machine.config.channels)
 
@@ -123,7 +127,7 @@ each_core_last machine now = map (core_last_at machine now) (below machine.confi
 abbrev pub each_channel_last : Machine → ℕ → List LastChannel
 each_channel_last machine now = map (channel_last_at machine now) (below machine.config.channels)
 
--- the refreshes that are due at a channel, of each rank by number
+-- the refreshes that are due at a channel before a cycle of the run, of each rank by number
 abbrev pub each_due : Machine → ℕ → ℕ → List ℕ
 each_due machine now channel = map (due_at machine now channel) (below machine.config.ranks)
 

@@ -7,8 +7,9 @@ use Rattle.sim_base.specs.Machine.{cycles_run}
 use Rattle.units.specs.Runs.{ends_at}
 use Rattle.units.specs.Views.{SimView}
 
--- Where a run up to a limit stops: at its last cycle, which is the limit, or where the configuration ends it drained
--- and it is over sooner, the first before which it is over. A simulator that stands there or further on stays.
+-- Where a run up to a limit stops: at its last cycle, which is the limit, or, where the configuration ends runs drained
+-- and the run is over sooner, the first cycle before which it is over. A simulator that stands there or further on
+-- stays.
 abbrev pub stop_of : SimView → ℕ → ℕ
 stop_of sim limit =
     let cycles = cycles_run sim.machine.config sim.machine.traces.items limit in

@@ -2,8 +2,9 @@
 --     SimView      the machine, how many cycles are over, and how many phases
 --     machine_with s traces      a machine of a configuration, with the traces of its cores
 --     first_view machine      before the first cycle
---     HasReached sim limit after      the same run, at a limit
---     is_over_now, flight_now, stats_now, last_now sim, outcome_now tables sim      what there is to see of the run where a simulator stands
+--     HasReached sim limit after      the run of the same machine, when the cycles before a limit are over
+--     is_over_now, flight_now, stats_now, last_now sim      what there is to see where a simulator stands
+--     outcome_now tables sim      what the cycles that are over leave
 use Rattle.std.specs.Prelude.{◌≡◌, ℕ, Bool, List, Vec}
 use Rattle.std.specs.declared.alloc.Global.{Global}
 use Rattle.sim_base.specs.declared.config.Config.{Config}
@@ -14,7 +15,7 @@ use Rattle.statistics.specs.declared.tables.Tables.{Tables}
 use Rattle.units.specs.Runs.{flight_at, is_over_at, stats_at, last_at, outcome_at}
 use Rattle.units.specs.declared.machine.Machine.{Machine}
 
--- the run of a machine, with the number of cycles that are over, and of the phases that they took
+-- the run of a machine, with the number of cycles that are over, and the number of phases that they took
 pub record SimView : Type 0 where
   pub machine : Machine
   pub now : ℕ
@@ -37,7 +38,7 @@ pub record HasReached (sim : SimView) (limit : ℕ) (after : SimView) : Type 0 w
 abbrev pub is_over_now : SimView → Bool
 is_over_now sim = is_over_at sim.machine sim.now
 
--- the messages in flight there
+-- the messages in flight where a simulator stands
 abbrev pub flight_now : SimView → List Message
 flight_now sim = flight_at sim.machine sim.now
 
@@ -45,10 +46,10 @@ flight_now sim = flight_at sim.machine sim.now
 abbrev pub stats_now : SimView → RunStats
 stats_now sim = stats_at sim.machine sim.now
 
--- the state that they leave
+-- the state that the cycles that are over leave
 abbrev pub last_now : SimView → LastState
 last_now sim = last_at sim.machine sim.now
 
--- what these cycles leave, with the tables that are asked for
+-- what the cycles that are over leave, with the tables that are asked for
 abbrev pub outcome_now : Tables → SimView → RunOutcome
 outcome_now tables sim = outcome_at tables sim.machine sim.now

@@ -1,34 +1,35 @@
 -- A machine whose units stand at cycles of their own, so that a phase touches only those with something to do.
 --     Sleeper      a unit, the cycle where it stands, and its wake word
 --     AreTimedUnits now parts units      units that all stand at a cycle
---     HasRunAndTells machine unit from until part held holds send      a unit has run over a span, and tells when it may send again
---     MayWait machine unit known at wake      as far as a run is known, a unit that stands at a cycle may be left alone up to another
---     Waits machine unit here there sleeper      a unit of a kind that stands at a cycle may be left alone up to its wake word
---     WaitAll machine first here there units words      so may all units at places from one on, in their order
---     IsKnown machine there until unit      what arrives at a unit before a cycle was sent in the first cycles of a run
---     IsBrought machine here there until unit links      the links hold what arrives at a unit up to a cycle, and it is known
---     AllBrought machine first count here there until links      so it is with all units at places from one on
---     units_from s first count      the units at places from one on
---     links_after s from until first count links      the links when those have taken what arrives at them in a span
---     HasGoneOn machine unit here there until sleeper messages      a unit that has gone on to a cycle, with what it sent
---     IsAsleep machine first now units words links      what holds of some units of a machine between two phases, with what is in flight to them
---     HaveGone machine first now until units words links      what holds of some units at the end of a phase, with what is in flight to them
---     arrived_at, arriving_at machine known unit ..      what arrives at a unit before a cycle, and in a span, as far as a run is known
---     links_to s first count mail      links with the messages that go to units at places from one on
+--     HasRunAndTells machine unit from until part held holds send      a unit has run, and tells when it may send again
+--     MayWait machine unit known at wake      as far as is known, a unit at cycle `at` may be left alone up to `wake`
+--     Waits machine unit here there sleeper      a unit of a kind that stands at a cycle may be left alone for now
+--     WaitAll machine first here there units words      all units at places from `first` on may be left alone for now
+--     IsInboxKnown machine there until unit      what arrives at a unit before `until` was sent before `there`
+--     HoldsInbox machine here there until unit links      the links hold what arrives at a unit, and it is known
+--     HoldInboxes machine first count here there until links      the links hold what arrives at `count` units
+--     units_from s first count      `count` units at places from `first` on
+--     links_after s from until first count links      the links when `count` units have taken what arrives in a span
+--     HasGoneOn machine unit here there until sleeper messages      a unit has gone on to a cycle, and sent this
+--     IsAsleep machine first now units words links      what holds of some units of a machine between two phases
+--     HaveRun machine first now until units words links      what holds of some units at the end of a phase
+--     arrived_at, arriving_at machine known unit ..      what arrives at a unit before a cycle, and in a span
+--     links_to s first count mail      links with the messages that go to `count` units at places from `first` on
 --     goes_to_place s m place      a message goes to the unit at a place
 --     NoneIsLater, IsNoLaterAt, IsNoneSooner      words of which one is lowered to an arrival
 --     AreLowered s first sent old new      words lowered to the arrivals of what was sent
 --     IsStill machine now then      nothing is sent in a span, and nothing in flight arrives in it
 use Rattle.std.specs.Prelude.{◌≡◌, ℕ, zero, suc, ◌+◌, ◌^◌, ◌<◌, ◌≤◌, true, Bool, List, [], ◌∷◌, ◌++◌, length, slice_index_or, filter, flat_map, All}
 use Rattle.sim_base.specs.declared.config.Config.{Config}
-use Rattle.sim_base.specs.History.{below, is_unit}
+use Rattle.sim_base.specs.History.{below, is_unit, receiver_of}
 use Rattle.sim_base.specs.declared.message.Message.{Message}
 use Rattle.sim_base.specs.declared.message.Unit.{Unit as MachineUnit}
-use Rattle.links.specs.InFlight.{InFlight, receiver_of, is_due}
+use Rattle.links.specs.InFlight.{InFlight, is_due}
 use Rattle.units.specs.SpanLaws.Flight.{left_after}
 use Rattle.units.specs.SpanLaws.Mail.{mail_before, mail_in}
 use Rattle.units.specs.Flight.{fresh, among}
-use Rattle.units.specs.Parts.{IsPart, HasRunOnto, late}
+use Rattle.units.specs.Parts.{IsPart, HasRunOnto}
+use Rattle.links.specs.Rings.{later_of}
 use Rattle.units.specs.Quiet.{SendsNothing}
 use Rattle.units.specs.Runs.{flight_at, sent_at}
 use Rattle.units.specs.Units.{unit_at, unit_count}
@@ -42,22 +43,23 @@ pub record Sleeper : Type 0 where
   pub at : ℕ
   pub wake : ℕ
 
--- units in their order, each at the same cycle
+-- units in their order, each of which stands at cycle `now`
 pub record AreTimedUnits (now : ℕ) (parts : List UnitState) (units : List TimedUnit) : Type 0 where
   pub count : length units ≡ length parts
-  pub parts_are : (k : ℕ) (d : TimedUnit) (e : UnitState) → k < length parts → (slice_index_or units k d).part ≡ slice_index_or parts k e
+  pub parts_are : (k : ℕ) (d : TimedUnit) (e : UnitState) → k < length parts
+      → (slice_index_or units k d).part ≡ slice_index_or parts k e
   pub stand : (k : ℕ) (d : TimedUnit) → k < length parts → (slice_index_or units k d).at ≡ now
 
 -- a unit with its word
 abbrev pub sleeper : TimedUnit → ℕ → Sleeper
 sleeper unit word = record { part = unit.part; at = unit.at; wake = word }
 
--- the unit at a place with its word
+-- the unit at a place of these units, with its word
 abbrev pub sleeper_at : List TimedUnit → List ℕ → ℕ → TimedUnit → Sleeper
 sleeper_at units words k d = sleeper (slice_index_or units k d) (slice_index_or words k 0)
 
 -- A unit stands at the end of a span, and what it sends in it is put behind what a list held before. It sends nothing
--- more before a cycle, if nothing arrives at it.
+-- more before cycle `send`, if nothing arrives at it.
 pub record HasRunAndTells
     (machine : Machine) (unit : MachineUnit) (from until : ℕ) (part : UnitState) (held holds : List Message) (send : ℕ)
     : Type 0 where
@@ -73,73 +75,74 @@ arrived_at machine known unit until = mail_before machine.config machine.traces.
 abbrev pub arriving_at : Machine → ℕ → MachineUnit → ℕ → ℕ → List Message
 arriving_at machine known unit from until = mail_in machine.config machine.traces.items known unit from until
 
--- A unit that stands at a cycle may be left alone up to another: it would send nothing, and of what was sent in the
+-- A unit that stands at cycle `at` may be left alone up to `wake`: it would send nothing, and of what was sent in the
 -- first `known` cycles of the run nothing arrives at it. What is sent later may still arrive sooner, and the word is
 -- then lowered.
 pub record MayWait (machine : Machine) (unit : MachineUnit) (known at wake : ℕ) : Type 0 where
   pub silent : SendsNothing machine at wake unit
   pub none : arriving_at machine known unit at wake ≡ []
 
--- A unit stands for its part of a run up to its own cycle, which is not past the one where its kind stands, and may
--- be left alone up to its word, as far as is known from the units that send to it, which stand at a cycle of theirs.
+-- A unit stands for its part of a run up to its own cycle, which is not past the cycle `here` where its kind stands,
+-- and may be left alone up to its word, as far as is known from the units that send to it, which stand at cycle
+-- `there`.
 pub record Waits (machine : Machine) (unit : MachineUnit) (here there : ℕ) (sleeper : Sleeper) : Type 0 where
   pub behind : sleeper.at ≤ here
   pub ahead : here ≤ sleeper.wake
   pub stands : IsPart machine unit sleeper.at sleeper.part
   pub may : MayWait machine unit there sleeper.at sleeper.wake
 
--- so do all units at places from one on, in their order, each with the word at its place
+-- all units at places from `first` on may be left alone, in their order, each up to the word at its place
 abbrev pub WaitAll : Machine → ℕ → ℕ → ℕ → List TimedUnit → List ℕ → Type 0
 WaitAll machine first here there units words =
     (k : ℕ) (d : TimedUnit) → k < length units
     → Waits machine (unit_at machine.config (first + k)) here there (sleeper_at units words k d)
 
 -- what arrives at a unit before a cycle was sent in the first `there` cycles of a run
-abbrev pub IsKnown : Machine → ℕ → ℕ → MachineUnit → Type 0
-IsKnown machine there until unit = arrived_at machine until unit until ≡ arrived_at machine there unit until
+abbrev pub IsInboxKnown : Machine → ℕ → ℕ → MachineUnit → Type 0
+IsInboxKnown machine there until unit = arrived_at machine until unit until ≡ arrived_at machine there unit until
 
--- The links hold, of what is sent to a unit in the first `there` cycles of a run, exactly what arrives from the cycle
--- on where its kind stands. Nothing else arrives before `until`, so that the unit may be run up to there.
-pub record IsBrought (machine : Machine) (here there until : ℕ) (unit : MachineUnit) (links : InFlight) : Type 0 where
+-- The links hold, of what is sent to a unit in the first `there` cycles of a run, exactly what arrives from cycle
+-- `here` on, where its kind stands. Nothing else arrives before `until`, so that the unit may be run up to there.
+pub record HoldsInbox (machine : Machine) (here there until : ℕ) (unit : MachineUnit) (links : InFlight) : Type 0 where
   pub channels_are : links.channels ≡ machine.config.channels
   pub overdue : filter (is_due machine.config.channels unit 0 here) links.messages ≡ []
   pub due : (from to : ℕ) → here ≤ from
       → filter (is_due machine.config.channels unit from to) links.messages ≡ arriving_at machine there unit from to
-  pub known : IsKnown machine there until unit
+  pub known : IsInboxKnown machine there until unit
 
--- so it is with all of so many units at places from one on
-abbrev pub AllBrought : Machine → ℕ → ℕ → ℕ → ℕ → ℕ → InFlight → Type 0
-AllBrought machine first count here there until links =
-    (k : ℕ) → k < count → IsBrought machine here there until (unit_at machine.config (first + k)) links
+-- the links hold what arrives at each of `count` units at places from `first` on
+abbrev pub HoldInboxes : Machine → ℕ → ℕ → ℕ → ℕ → ℕ → InFlight → Type 0
+HoldInboxes machine first count here there until links =
+    (k : ℕ) → k < count → HoldsInbox machine here there until (unit_at machine.config (first + k)) links
 
--- so many units at places from one on
+-- the `count` units at places from `first` on
 unfoldable pub units_from : Config → ℕ → ℕ → List MachineUnit
 units_from s first zero = []
 units_from s first (suc count) = units_from s first count ++ unit_at s (first + count) ∷ []
 
--- the links when so many units at places from one on have taken what arrives at them in a span
+-- the links when `count` units at places from `first` on have taken what arrives at them in a span
 abbrev pub links_after : Config → ℕ → ℕ → ℕ → ℕ → InFlight → InFlight
 links_after s from until first count links =
     record links { messages = left_after s.channels from until (units_from s first count) links.messages }
 
--- the links with these messages, as far as they go to so many units at places from one on
+-- the links with those of these messages that go to `count` units at places from `first` on
 abbrev pub links_to : Config → ℕ → ℕ → List Message → InFlight
 links_to s first count mail = record { channels = s.channels; messages = among s first (first + count) mail }
 
--- A unit has gone on with its kind from one cycle to another, while those that send to it have not. What they have
--- sent so far it knows.
+-- A unit has gone on with its kind from cycle `here` to `until`, while those that send to it stand at `there`. What
+-- they have sent so far it knows.
 pub record HasGoneOn (machine : Machine) (unit : MachineUnit) (here there until : ℕ) (sleeper : Sleeper) (messages : List Message) : Type 0 where
   pub waits : Waits machine unit until there sleeper
   pub sent : sent_at machine until unit ≡ sent_at machine here unit ++ messages
 
--- what it sent is put at the end of a list
+-- a unit has gone on with its kind, and what it sent is put at the end of a list
 pub record AddsWhatItSent (machine : Machine) (unit : MachineUnit) (here there until : ℕ) (sleeper : Sleeper) (old new : List Message) : Type 0 where
   pub messages : List Message
-  pub gone : HasGoneOn machine unit here there until sleeper messages
+  pub has_run : HasGoneOn machine unit here there until sleeper messages
   pub added : new ≡ old ++ messages
 
--- What holds of some units of a machine, at places from one on, between two phases: the links hold exactly what is in
--- flight to them in the run.
+-- What holds of some units of a machine, at places from `first` on, between two phases: the links hold exactly what is
+-- in flight to them in the run.
 pub record IsAsleep (machine : Machine) (first now : ℕ) (units : List TimedUnit) (words : List ℕ) (links : InFlight) : Type 0 where
   pub early : now ≤ 10 ^ 12
   pub within : first + length units ≤ unit_count machine.config
@@ -147,13 +150,13 @@ pub record IsAsleep (machine : Machine) (first now : ℕ) (units : List TimedUni
   pub wait : WaitAll machine first now now units words
   pub flight : links ≡ links_to machine.config first (length units) (flight_at machine now)
 
--- What holds of some units of a machine, at places from one on, at the end of a phase: their words do not yet know
+-- What holds of some units of a machine, at places from `first` on, at the end of a phase: their words do not yet know
 -- what was sent in it, and the links hold exactly what was in flight to them at its beginning and arrives later.
-pub record HaveGone (machine : Machine) (first now until : ℕ) (units : List TimedUnit) (words : List ℕ) (links : InFlight) : Type 0 where
+pub record HaveRun (machine : Machine) (first now until : ℕ) (units : List TimedUnit) (words : List ℕ) (links : InFlight) : Type 0 where
   pub within : first + length units ≤ unit_count machine.config
   pub words_count : length words ≡ length units
   pub between : WaitAll machine first until now units words
-  pub flight : links ≡ links_to machine.config first (length units) (late until (flight_at machine now))
+  pub flight : links ≡ links_to machine.config first (length units) (later_of until (flight_at machine now))
 
 -- what all units send in a phase
 abbrev pub sent_in : Machine → ℕ → ℕ → List Message
@@ -167,7 +170,7 @@ goes_to_place s m place = is_unit (receiver_of s.channels m.link) (unit_at s pla
 abbrev pub NoneIsLater : List ℕ → List ℕ → Type 0
 NoneIsLater old new = (k : ℕ) → k < length old → slice_index_or new k 0 ≤ slice_index_or old k 0
 
--- the word of the unit at a place, of units at places from one on, is no later than an arrival
+-- of units at places from `first` on, the word of the one at `place` is no later than an arrival
 abbrev pub IsNoLaterAt : ℕ → ℕ → List ℕ → ℕ → Type 0
 IsNoLaterAt first arrival words place =
     (k : ℕ) → k < length words → first + k ≡ place → slice_index_or words k 0 ≤ arrival
@@ -177,7 +180,7 @@ abbrev pub IsNoneSooner : List ℕ → List ℕ → ℕ → Type 0
 IsNoneSooner old new arrival =
     (cycle k : ℕ) → k < length old → cycle ≤ slice_index_or old k 0 → cycle ≤ arrival → cycle ≤ slice_index_or new k 0
 
--- The word of each unit, of those at places from one on, is no later than the arrival of what is sent to it; and if
+-- The word of each unit, of those at places from `first` on, is no later than the arrival of what is sent to it; and if
 -- neither its old word nor any arrival is before a cycle, nor is the new one.
 pub record AreLowered (s : Config) (first : ℕ) (sent : List Message) (old new : List ℕ) : Type 0 where
   pub count : length new ≡ length old

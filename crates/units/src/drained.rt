@@ -5,7 +5,7 @@ ghost use Rattle.units.specs.Runs.{flight_at};
 ghost use Rattle.units.specs.Units.{unit_at, unit_count};
 ghost use Rattle.units.specs.declared.machine.Machine.{Machine};
 ghost use Rattle.units.specs.Parts.{IsPartAt, StandAt};
-ghost use Rattle.units.specs.Drained.{HasFinished, AllFinished, GoesOn};
+ghost use Rattle.units.specs.Drained.{HasFinished, AllFinished, StillRuns};
 
 use crate::machine::Machine;
 use crate::part::UnitState;
@@ -41,7 +41,7 @@ pub(crate) fn all_finished(machine: &Machine, parts: &[UnitState]) -> bool
 /// cycle.
 fn unit_until(machine: &Machine, now: Cycle, place: usize, part: &UnitState) -> Cycle
     requires place { place < unit_count machine.now.config }
-    ensures { IsPartAt machine.now place now part.now → GoesOn machine.now now result }
+    ensures { IsPartAt machine.now place now part.now → StillRuns machine.now now result }
 {
     match part {
         UnitState::Core(core) => {
@@ -57,7 +57,7 @@ fn unit_until(machine: &Machine, now: Cycle, place: usize, part: &UnitState) -> 
 /// The first cycle before which all cores may have retired their traces.
 pub(crate) fn cores_until(machine: &Machine, now: Cycle, parts: &[UnitState]) -> Cycle
     requires count { length parts.now ≡ unit_count machine.now.config }
-    ensures { StandAt machine.now now parts.now → GoesOn machine.now now result }
+    ensures { StandAt machine.now now parts.now → StillRuns machine.now now result }
 {
     let mut until = now;
     for (place, part) in parts.iter().enumerate() {
@@ -69,7 +69,7 @@ pub(crate) fn cores_until(machine: &Machine, now: Cycle, parts: &[UnitState]) ->
 /// The cycle after the first in which a message arrives, if one is in flight.
 pub(crate) fn flight_until(links: &Links, now: Cycle) -> Cycle
     ensures { (machine : Machine) → links.now.messages ≡ flight_at machine now
-        → GoesOn machine now result }
+        → StillRuns machine now result }
 {
     match links.next_arrival() {
         Some(arrival) => arrival.saturating_add(1),

@@ -6,7 +6,7 @@ ghost use Rattle.sim_base.specs.History.{trace_of};
 ghost use Rattle.channel_step.specs.Channels.{StandsFor as ChannelStandsFor};
 ghost use Rattle.core_window.specs.CoreViews.{view_of};
 ghost use Rattle.core_window.specs.Stands.{StandsFor as CoreStandsFor};
-ghost use Rattle.units.specs.Drained.{GoesOn, NotEnded};
+ghost use Rattle.units.specs.Drained.{StillRuns, NotEnded};
 ghost use Rattle.units.specs.Kept.{command_table_if, request_table_if};
 ghost use Rattle.units.specs.Parts.{StandAt};
 ghost use Rattle.units.specs.Stops.{IsWholeUnlessDrained, HasNoMore};
@@ -221,7 +221,7 @@ impl Sim {
         requires goes_on { is_over_now self.now ≡ false }
         ensures some { self.entry.now.now < result }
         ensures within { result ≤ limit }
-        ensures goes_on { GoesOn self.entry.now.machine self.entry.now.now result }
+        ensures goes_on { StillRuns self.entry.now.machine self.entry.now.now result }
     {
         let cores = cores_until(&self.machine, self.now, &self.parts);
         let flight = flight_until(&self.links, self.now);
@@ -260,7 +260,7 @@ impl Sim {
         Stats::of_parts(alloc, self.now, &cores, &channels)
     }
 
-    /// The state in which the machine is left: that of each unit, and the messages in flight.
+    /// The state in which the machine is left: the state of each unit, and the messages in flight.
     fn final_state(&self, alloc: Global) -> Result<FinalState, AllocError>
         ensures { IfOk result (λ last. last ≡ last_now self.entry.now) }
     {

@@ -8,8 +8,8 @@ use links::latency::shortest;
 use sim_base::config::Config;
 use sim_base::message::Cycle;
 
-/// The cycle before which a phase that begins in this one ends: after the shortest latency of the machine's links, or
-/// at the limit, if that comes sooner. What a unit sends in a phase arrives after it.
+/// The cycle before which a phase that begins in cycle `now` ends: after the shortest latency of the machine's links,
+/// or at the limit, if that comes sooner. What a unit sends in a phase arrives after it.
 #[inline(always)]
 pub fn end_of_phase(config: &Config, now: Cycle, limit: Cycle) -> Cycle
     requires { now < limit }

@@ -124,8 +124,8 @@ fn command_table(
     Some(CommandTable::of(lists?))
 }
 
-/// The requests of all channels, by the cycle of their command and then by channel, if they were kept. They stay
-/// where they are as well. The only error is out of memory.
+/// The requests of all channels, by the cycle of their command and then by channel, if they were kept. The requests
+/// stay where they are: no list is copied. The only error is out of memory.
 fn request_table(
     alloc: Global,
     machine: &Machine,

@@ -6,7 +6,7 @@ ghost use Rattle.units.specs.Parts.{IsPart, IsPartAt, IsReady, IsReadyFor};
 ghost use Rattle.units.specs.Quiet.{IsInSomeRun, SendsNothing};
 ghost use Rattle.units.specs.Units.{unit_count};
 ghost use Rattle.units.specs.declared.machine.Machine.{Machine};
-ghost use Rattle.units.specs.GoingOn.{MayBeWoken, MayBeBroughtUp, IsBroughtTo, GoesOnOver, NothingArrives, links_taken};
+ghost use Rattle.units.specs.GoingOn.{MayBeWoken, MayBeBroughtUp, HoldsInboxOver, GoesOnOver, NothingArrives, links_taken};
 ghost use Rattle.units.specs.Wakes.{HasRunAndTells, sleeper};
 
 use crate::machine::{Machine, unit_at};
@@ -87,8 +87,8 @@ fn arrival_word(links: &Links, unit: Unit, from: Cycle, send: Cycle) -> Cycle
 }
 
 impl TimedUnit {
-    /// Runs the unit at a place, whose kind stands at a cycle, up to another, with what arrives at it, and puts what
-    /// it sends at the end of a list. Gives its next word.
+    /// Runs the unit at a place over a span, with what arrives at it from where its kind stands, and puts what it sends
+    /// at the end of a list. Gives its next word.
     pub fn woken(
         &mut self,
         machine: &Machine,
@@ -100,8 +100,8 @@ impl TimedUnit {
         requires order { span.now.here ≤ span.now.until }
         requires early { span.now.until ≤ 10 ^ 12 }
         requires waits { MayBeWoken machine.now place span.now self.old }
-        requires brought { IsBroughtTo machine.now place span.now traffic.old.links }
-        ensures gone { IfOk result (λ wake.
+        requires holds_inbox { HoldsInboxOver machine.now place span.now traffic.old.links }
+        ensures has_run { IfOk result (λ wake.
             GoesOnOver machine.now place span.now (sleeper self.new wake)
             traffic.old.lists.sent.items traffic.new.lists.sent.items) }
         ensures links { OnOk result (

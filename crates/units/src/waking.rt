@@ -3,7 +3,7 @@
 ghost use Rattle.std.specs.Prelude.{◌≡◌, ◌<◌, ◌≤◌, ◌^◌, ◌+◌, ℕ, [], length, replicate, IfOk, OnOk, slice_index_or};
 ghost use Rattle.units.specs.Parts.{StandAt};
 ghost use Rattle.units.specs.Units.{unit_count};
-ghost use Rattle.units.specs.GoingOn.{AllBroughtTo, GrowsBy, WaitAllAt, WaitAllPast, links_taken_by, sent_over};
+ghost use Rattle.units.specs.GoingOn.{HoldInboxesOver, GrowsBy, WaitAllAt, WaitAllPast, links_taken_by, sent_over};
 ghost use Rattle.units.specs.Wakes.{AreTimedUnits, WaitAll};
 
 use crate::lane_scan::first_below;
@@ -25,7 +25,7 @@ pub struct UnitRange {
 }
 
 impl UnitRange {
-    /// Units at places from one on, each with the cycle where all stand as its word.
+    /// Units at places from `first` on, each with the cycle `now`, where all stand, as its word.
     pub fn awake(
         alloc: Global,
         first: usize,
@@ -46,7 +46,7 @@ impl UnitRange {
     }
 }
 
-/// The first place from one on whose word is before a cycle, or the number of words where there is none.
+/// The first place from `from` on whose word is before `until`, or the number of words where there is none.
 fn next_waking(words: &[Cycle], from: usize, until: Cycle) -> usize
     requires { from ≤ length words.now }
     ensures since { from ≤ result }
@@ -73,7 +73,7 @@ pub fn go_on(
     requires order { span.now.here ≤ span.now.until }
     requires early { span.now.until ≤ 10 ^ 12 }
     requires wait { WaitAllAt machine.now span.now range.old }
-    requires brought { AllBroughtTo machine.now span.now range.old traffic.old.links }
+    requires holds_inbox { HoldInboxesOver machine.now span.now range.old traffic.old.links }
     requires sent { traffic.old.lists.sent.items ≡ [] }
     ensures first { range.new.first ≡ range.old.first }
     ensures count { length range.new.units.items ≡ length range.old.units.items }

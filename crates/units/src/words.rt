@@ -8,6 +8,7 @@ ghost use Rattle.units.specs.Units.{unit_count};
 ghost use Rattle.units.specs.GoingOn.{IsReceiver, HasNoReceiver};
 ghost use Rattle.units.specs.Wakes.{AreLowered, NoneIsLater, IsNoLaterAt, IsNoneSooner};
 
+use core_window::receive::channel_of;
 use links::flight::{FEW_MESSAGES, Links};
 use sim_base::config::Config;
 use sim_base::message::{Cycle, LinkId, Message};
@@ -21,14 +22,7 @@ fn channel_bits(config: &Config) -> u32
     config.channels.ilog2()
 }
 
-/// The channel of a link.
-fn channel_of(config: &Config, link: LinkId) -> u64
-    ensures { result ≡ link / 3 % config.now.channels }
-{
-    (link / 3) & u64::from(config.channels - 1)
-}
-
-/// The core of a link, where the number of a channel takes so many bits.
+/// The core of a link, where the number of a channel takes `bits` bits.
 fn core_of(config: &Config, bits: u32, link: LinkId) -> u64
     requires channels { config.now.channels ≡ 2 ^ bits }
     requires few { bits < 32 }
@@ -37,7 +31,7 @@ fn core_of(config: &Config, bits: u32, link: LinkId) -> u64
     (link / 3) >> bits
 }
 
-/// The place of the unit that a link leads to, if the machine has it. The number of a channel takes so many bits.
+/// The place of the unit that a link leads to, if the machine has it. The number of a channel takes `bits` bits.
 fn place_at(config: &Config, bits: u32, link: LinkId) -> Option<usize>
     requires channels { config.now.channels ≡ 2 ^ bits }
     requires few { bits < 32 }
@@ -81,7 +75,7 @@ fn place_of_ring(config: &Config, ring: usize) -> Option<usize>
     if core < cores { Some(core) } else { None }
 }
 
-/// Lowers the word of the unit at a place, of units at places from one on, to an arrival.
+/// Lowers the word of the unit at `place` to an arrival, where `words` are those of units at places from `first` on.
 #[inline(always)]
 fn lower(first: usize, words: &mut [Cycle], place: Option<usize>, arrival: Cycle)
     ensures count { length words.new ≡ length words.old }
@@ -96,7 +90,7 @@ fn lower(first: usize, words: &mut [Cycle], place: Option<usize>, arrival: Cycle
     }
 }
 
-/// Lowers the words of units, at places from one on, to the arrivals of what was sent to them.
+/// Lowers the words of units at places from `first` on to the arrivals of what was sent to them.
 fn lower_all(config: &Config, first: usize, words: &mut [Cycle], sent: &[Message])
     requires { first + length words.old ≤ unit_count config.now }
     ensures { AreLowered config.now first sent.now words.old words.new }
@@ -128,7 +122,7 @@ fn take_up_few(
     Ok(())
 }
 
-/// Takes up what was sent, which may change places, and lowers the words of units, at places from one on, to the
+/// Takes up what was sent, which may change places, and lowers the words of units at places from `first` on to the
 /// arrivals of what was sent to them. A few messages take one pass; many are sorted before the links take them up. The
 /// only error is out of memory, and some messages may be taken up by then.
 #[inline(always)]

@@ -6,11 +6,12 @@ use Rattle.std.specs.Str.{bytes_eq}
 use Rattle.std.proofs.lemmas.List.{append_cancel_left, append_assoc, append-nil, take_more, map-append, length-map}
 use Rattle.std.proofs.lemmas.Slice.Eq.{bytes_eq-Decides}
 use Rattle.std.proofs.lemmas.Bool.{false≢true}
-use Rattle.sim_base.proofs.Each.{Each-append, Each-map, Each-first, Each-last}
+use Rattle.sim_base.proofs.Each.{Each-append, Each-map, Each-first, Each-last, Each-drop}
 use Rattle.sim_base.proofs.Ordered.{Each-weaker}
 use Rattle.statistics.specs.Values.{RunOutcome}
 use Rattle.whole_files.specs.Files.{Held, SameFiles, SameBut, IsRenamed}
-use Rattle.whole_files.specs.Tables.{path_in, commands_name, stats_name, final_name, requests_name, part_name, NamedText, table_named, commands_of, stats_of, final_of, requests_of, tables_in, names_unless, others_in, PlannedText, planned_in, plan_in, from_paths, paths_of, SameOutside, IsApartFrom, AreApart, AreStaged, AreGone, AreRemoved, IsMoved, IsWaiting, ArePlaced, ArePartlyPlaced, IsIn, IsBeside, ArePut, AreTorn, AreKeptBack, IsLeftUnplaced, other_paths, IsWritten, IsLeftBy}
+use Rattle.whole_files.specs.Tables.{path_in, commands_name, stats_name, final_name, requests_name, NamedText, table_named, commands_of, stats_of, final_of, requests_of, tables_in, names_unless, others_in, PlannedText, planned_in, plan_in, from_paths, paths_of, SameOutside, IsApartFrom, AreApart, AreStaged, AreGone, AreRemoved, IsMoved, IsWaiting, ArePlaced, ArePartlyPlaced, IsIn, IsBeside, ArePut, AreTorn, AreKeptBack, IsLeftUnplaced, other_paths, IsWritten, IsLeftBy}
+use Rattle.whole_files.specs.WholeFile.{part_of}
 use Rattle.whole_files.specs.Planned.{planned_of}
 use Rattle.whole_files.specs.declared.tables.PlannedTable.{PlannedTable}
 use Rattle.refusal.specs.declared.refusal.Refusal.{Refusal}
@@ -30,12 +31,6 @@ Each-take P [] zero h = tt
 Each-take P [] (suc k) h = tt
 Each-take P (x ∷ xs) zero h = tt
 Each-take P (x ∷ xs) (suc k) h = (h.0, Each-take P xs k h.1)
-
-Each-drop : {X : Type 0} (P : X → Type 0) (xs : List X) (k : ℕ) → Each P xs → Each P (drop k xs)
-Each-drop P [] zero h = tt
-Each-drop P [] (suc k) h = tt
-Each-drop P (x ∷ xs) zero h = h
-Each-drop P (x ∷ xs) (suc k) h = Each-drop P xs k h.1
 
 Each-two : {X : Type 0} (P Q R : X → Type 0) → ((x : X) → P x → Q x → R x) → (xs : List X) → Each P xs → Each Q xs → Each R xs
 Each-two P Q R f [] h k = tt
@@ -326,14 +321,14 @@ unnamed slots = flat_map (λ slot. names_unless (is_some slot.1) slot.0) slots
 -- two tables of these names have no path in common
 abbrev AreFar : List ℕ → List ℕ → Type 0
 AreFar a b =
-    (bytes_eq (part_name a) (part_name b) ≡ false) × (bytes_eq (part_name a) b ≡ false) × (bytes_eq a (part_name b) ≡ false) × (bytes_eq a b ≡ false)
+    (bytes_eq (part_of a) (part_of b) ≡ false) × (bytes_eq (part_of a) b ≡ false) × (bytes_eq a (part_of b) ≡ false) × (bytes_eq a b ≡ false)
 
 abbrev IsFarFromSlots : List ℕ → List Slot → Type 0
 IsFarFromSlots name slots = Each (λ (slot : Slot). AreFar name slot.0) slots
 
 abbrev AllAreFar : List Slot → Type 0
 AllAreFar [] = Unit {0}
-AllAreFar (slot ∷ slots) = (bytes_eq (part_name slot.0) slot.0 ≡ false) × IsFarFromSlots slot.0 slots × AllAreFar slots
+AllAreFar (slot ∷ slots) = (bytes_eq (part_of slot.0) slot.0 ≡ false) × IsFarFromSlots slot.0 slots × AllAreFar slots
 
 abbrev table_of : List ℕ → List ℕ → List ℕ → PlannedText
 table_of folder name text = planned_in folder (record { name = name; text = text })
@@ -343,9 +338,9 @@ far_from_named folder name text [] far = tt
 far_from_named folder name text ((other, None) ∷ slots) far = far_from_named folder name text slots far.1
 far_from_named folder name text ((other, Some its) ∷ slots) far = (
   record {
-    froms = apart folder (part_name name) (part_name other) far.0.0;
-    from_to = apart folder (part_name name) other far.0.1;
-    to_from = apart folder name (part_name other) far.0.2;
+    froms = apart folder (part_of name) (part_of other) far.0.0;
+    from_to = apart folder (part_of name) other far.0.1;
+    to_from = apart folder name (part_of other) far.0.2;
     tos = apart folder name other far.0.3;
   },
   far_from_named folder name text slots far.1,
@@ -354,7 +349,7 @@ far_from_named folder name text ((other, Some its) ∷ slots) far = (
 slots_apart : (folder : List ℕ) (slots : List Slot) → AllAreFar slots → AreApart (map (planned_in folder) (named slots))
 slots_apart folder [] far = tt
 slots_apart folder ((name, None) ∷ slots) far = slots_apart folder slots far.2
-slots_apart folder ((name, Some text) ∷ slots) far = (apart folder (part_name name) name far.0, far_from_named folder name text slots far.1, slots_apart folder slots far.2)
+slots_apart folder ((name, Some text) ∷ slots) far = (apart folder (part_of name) name far.0, far_from_named folder name text slots far.1, slots_apart folder slots far.2)
 
 -- neither path of a table is one of these
 abbrev IsFarFrom : List (List ℕ) → PlannedText → Type 0
@@ -364,8 +359,8 @@ far_from_unnamed : (folder name text : List ℕ) (slots : List Slot) → IsFarFr
 far_from_unnamed folder name text [] far = (tt, tt)
 far_from_unnamed folder name text ((other, None) ∷ slots) far =
     let rest = far_from_unnamed folder name text slots far.1 in (
-      (apart folder name other far.0.3, (apart folder name (part_name other) far.0.2, rest.0)),
-      (apart folder (part_name name) other far.0.1, (apart folder (part_name name) (part_name other) far.0.0, rest.1)),
+      (apart folder name other far.0.3, (apart folder name (part_of other) far.0.2, rest.0)),
+      (apart folder (part_of name) other far.0.1, (apart folder (part_of name) (part_of other) far.0.0, rest.1)),
     )
 far_from_unnamed folder name text ((other, Some its) ∷ slots) far = far_from_unnamed folder name text slots far.1
 
@@ -376,13 +371,13 @@ IsFarFromPath path p = (p.to ≢ path) × (p.from ≢ path)
 named_far_from : (folder name : List ℕ) (slots : List Slot) → IsFarFromSlots name slots → Each (IsFarFromPath (path_in folder name)) (map (planned_in folder) (named slots))
 named_far_from folder name [] far = tt
 named_far_from folder name ((other, None) ∷ slots) far = named_far_from folder name slots far.1
-named_far_from folder name ((other, Some its) ∷ slots) far = ((flip (apart folder name other far.0.3), flip (apart folder name (part_name other) far.0.2)), named_far_from folder name slots far.1)
+named_far_from folder name ((other, Some its) ∷ slots) far = ((flip (apart folder name other far.0.3), flip (apart folder name (part_of other) far.0.2)), named_far_from folder name slots far.1)
 
-named_far_from_part : (folder name : List ℕ) (slots : List Slot) → IsFarFromSlots name slots → Each (IsFarFromPath (path_in folder (part_name name))) (map (planned_in folder) (named slots))
+named_far_from_part : (folder name : List ℕ) (slots : List Slot) → IsFarFromSlots name slots → Each (IsFarFromPath (path_in folder (part_of name))) (map (planned_in folder) (named slots))
 named_far_from_part folder name [] far = tt
 named_far_from_part folder name ((other, None) ∷ slots) far = named_far_from_part folder name slots far.1
 named_far_from_part folder name ((other, Some its) ∷ slots) far =
-    ((flip (apart folder (part_name name) other far.0.1), flip (apart folder (part_name name) (part_name other) far.0.0)), named_far_from_part folder name slots far.1)
+    ((flip (apart folder (part_of name) other far.0.1), flip (apart folder (part_of name) (part_of other) far.0.0)), named_far_from_part folder name slots far.1)
 
 -- one path more
 far_from_more : (path : List ℕ) (paths : List (List ℕ)) (ps : List PlannedText) → Each (IsFarFrom paths) ps → Each (IsFarFromPath path) ps → Each (IsFarFrom (path ∷ paths)) ps
@@ -393,8 +388,8 @@ slots_far folder [] far = tt
 slots_far folder ((name, None) ∷ slots) far =
     let others = map (path_in folder) (unnamed slots) in
     let ps = map (planned_in folder) (named slots) in
-    far_from_more (path_in folder name) (path_in folder (part_name name) ∷ others) ps
-    (far_from_more (path_in folder (part_name name)) others ps (slots_far folder slots far.2) (named_far_from_part folder name slots far.1))
+    far_from_more (path_in folder name) (path_in folder (part_of name) ∷ others) ps
+    (far_from_more (path_in folder (part_of name)) others ps (slots_far folder slots far.2) (named_far_from_part folder name slots far.1))
     (named_far_from folder name slots far.1)
 slots_far folder ((name, Some text) ∷ slots) far = (far_from_unnamed folder name text slots far.1, slots_far folder slots far.2)
 

@@ -7,10 +7,9 @@
 --     IsRenamed from to old new      a file has got another path
 --     IsUntouched old new before after      no file has changed, and none was opened to be written
 --     IsReadFault tells found fault      why a file is not read
---     IsWriteFault fault      why a file is not written, moved or removed
-use Rattle.std.specs.Prelude.{◌≡◌, ◌≢◌, ◌⊎◌, ◌<◌, ⊤, ℕ, List, length, slice_index_or, Option, Some, None}
+use Rattle.std.specs.Prelude.{◌≡◌, ◌≢◌, ◌⊎◌, ◌<◌, ℕ, List, length, slice_index_or, Option, Some, None}
 use Rattle.sim_base.specs.declared.fault.Fault.{Fault}
-use Rattle.sim_base.specs.declared.fault.Fault.TheVariants.{Memory, Read, Write}
+use Rattle.sim_base.specs.declared.fault.Fault.TheVariants.{Memory, Read}
 
 -- what each path holds: the bytes of a file, or None where there is none
 abbrev pub Held : Type 0
@@ -18,7 +17,9 @@ Held = List ℕ → Option (List ℕ)
 
 -- each of these texts is what its path holds
 abbrev pub AreHeld : Held → List (List ℕ) → List (List ℕ) → Type 0
-AreHeld held paths texts = (k : ℕ) (path text : List ℕ) → k < length texts → held (slice_index_or paths k path) ≡ Some (slice_index_or texts k text)
+AreHeld held paths texts =
+    (k : ℕ) (path text : List ℕ) → k < length texts
+    → held (slice_index_or paths k path) ≡ Some (slice_index_or texts k text)
 
 -- no path has changed
 abbrev pub SameFiles : Held → Held → Type 0
@@ -46,9 +47,3 @@ pub record IsUntouched (old new : Held) (before after : List (List ℕ)) : Type 
 -- memory was refused; or the file cannot be read, and where the set tells, there is none
 abbrev pub IsReadFault : Type 0 → Option (List ℕ) → Fault → Type 0
 IsReadFault tells found fault = (fault ≡ Memory) ⊎ ((fault ≡ Read) × (tells → found ≡ None))
-
--- memory was refused, or the host refused
-abbrev pub IsWriteFault : Fault → Type 0
-IsWriteFault Memory = ⊤
-IsWriteFault Write = ⊤
-IsWriteFault _ = ⊥

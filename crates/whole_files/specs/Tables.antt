@@ -30,6 +30,7 @@ use Rattle.whole_files.specs.Files.{Held, IsUntouched}
 use Rattle.whole_files.specs.declared.moves.Move.{Move}
 use Rattle.refusal.specs.declared.refusal.Refusal.{Refusal}
 use Rattle.refusal.specs.declared.refusal.Refusal.TheVariants.{Kept, Torn}
+use Rattle.whole_files.specs.WholeFile.{part_of}
 
 -- the path of a name in a folder
 abbrev pub path_in : List ℕ → List ℕ → List ℕ
@@ -47,10 +48,6 @@ final_name = codes "final.csv"
 
 abbrev pub requests_name : List ℕ
 requests_name = codes "requests.csv"
-
--- the name under which a table is written
-abbrev pub part_name : List ℕ → List ℕ
-part_name name = name ++ codes ".part"
 
 -- a way from one name in a folder to another
 pub record IsMoveIn (folder part name : List ℕ) (move : Move) : Type 0 where
@@ -88,7 +85,7 @@ tables_in run =
 
 -- the names under which a table may stand, where it is not asked for: its own, and that under which it is written
 abbrev pub names_unless : Bool → List ℕ → List (List ℕ)
-names_unless asked name = if asked then [] else name ∷ part_name name ∷ []
+names_unless asked name = if asked then [] else name ∷ part_of name ∷ []
 
 -- its paths in a folder, where it is not asked for
 abbrev pub paths_unless : Bool → List ℕ → List ℕ → List (List ℕ)
@@ -109,7 +106,7 @@ pub record PlannedText : Type 0 where
 
 -- the paths of a table in a folder, and its text
 abbrev pub planned_in : List ℕ → NamedText → PlannedText
-planned_in folder table = record { from = path_in folder (part_name table.name); to = path_in folder table.name; text = table.text }
+planned_in folder table = record { from = path_in folder (part_of table.name); to = path_in folder table.name; text = table.text }
 
 -- the tables of an outcome, with their paths in a folder
 abbrev pub plan_in : List ℕ → RunOutcome → List PlannedText

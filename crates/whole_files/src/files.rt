@@ -5,7 +5,8 @@ ghost use Rattle.std.specs.Io.{WritesAtMost};
 ghost use Rattle.std.specs.Io.Buffered.{writer_contents};
 ghost use Rattle.std.specs.Io.KnownBytes.{Keeps, WriteAppends};
 ghost use Rattle.std.specs.IoError.{raw_os_error};
-ghost use Rattle.whole_files.specs.Files.{Held, SameFiles, SameBut, IsRenamed, IsReadFault, IsWriteFault};
+ghost use Rattle.whole_files.specs.Files.{Held, SameFiles, SameBut, IsRenamed, IsReadFault};
+ghost use Rattle.sim_base.specs.Faults.{IsWriteFault};
 
 use crate::host_answers::{PathKind, bytes_read, folder_at, replaceable_link, stands_at, written};
 use refusal::reason::Reason;
@@ -104,8 +105,8 @@ pub struct HostFiles<'a, R> {
     pub rt: &'a R,
 }
 
-// Opens a file as if to write it, and leaves it as it is: one that is protected, for example by its mode or its
-// folder's, refuses that.
+/// Opens a file as if to write it, and leaves it as it is: one that is protected, for example by its mode or its
+/// folder's, refuses that.
 fn test_writing(alloc: Global, files: &impl Files, path: &str) -> Result<(), Reason>
     ensures { IfErr result (λ e. e ≡ Fault.Write) }
 {
@@ -130,7 +131,7 @@ impl<W: Write + Drop> HostOut<W> {
         self.code = error.raw_os_error();
     }
 
-    // Writes what is left, and gives the file back.
+    /// Writes what is left, and gives the file back.
     fn finish(self) -> io::Result<W>
         ensures whole { IfOk result (λ file.
             Keeps (writer_contents W.contents self.out) (W.contents file)) }

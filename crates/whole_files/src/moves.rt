@@ -1,7 +1,8 @@
 //! The way of a file to its place: it is written under a name of its own, and gets its place once it is whole.
 
 ghost use Rattle.std.specs.Prelude.{◌≡◌, None, IfOk, IfErr, OnOk, OnErr, string_bytes};
-ghost use Rattle.whole_files.specs.Files.{SameFiles, SameBut, IsWriteFault};
+ghost use Rattle.whole_files.specs.Files.{SameFiles, SameBut};
+ghost use Rattle.sim_base.specs.Faults.{IsWriteFault};
 ghost use Rattle.whole_files.specs.Tables.{path_in, IsMoveIn};
 ghost use Rattle.whole_files.specs.WholeFile.{from_path, IsMoveTo, GetsPlace};
 

@@ -3,12 +3,13 @@
 
 ghost use Rattle.std.specs.Prelude.{◌≡◌, ◌++◌, ◌∷◌, [], map, true, false, Some, option_map, IfOk, IfErr, OnOk, string_bytes};
 ghost use Rattle.refusal.specs.Refusals.{fault_of, IsKept, IsTornRefusal};
-ghost use Rattle.reports.specs.Rows.{IsReportFault, WritesOnOk};
+ghost use Rattle.reports.specs.Rows.{WritesOnOk};
+ghost use Rattle.sim_base.specs.Faults.{IsWriteFault};
 ghost use Rattle.statistics.specs.Outcomes.{if_asked};
-ghost use Rattle.whole_files.specs.Files.{SameFiles, SameBut, IsWriteFault};
-ghost use Rattle.whole_files.specs.Tables.{commands_of, requests_of, path_in, part_name, plan_in, from_paths, paths_unless, other_paths, parts, SameOutside, AreApart, AreStaged, AreGone, ArePlaced, ArePartlyPlaced, AreRemoved, ArePut, IsLeftUnplaced, IsWritten, IsLeftBy};
+ghost use Rattle.whole_files.specs.Files.{SameFiles, SameBut};
+ghost use Rattle.whole_files.specs.Tables.{commands_of, requests_of, path_in, plan_in, from_paths, paths_unless, other_paths, parts, SameOutside, AreApart, AreStaged, AreGone, ArePlaced, ArePartlyPlaced, AreRemoved, ArePut, IsLeftUnplaced, IsWritten, IsLeftBy};
+ghost use Rattle.whole_files.specs.WholeFile.{part_of, from_path};
 ghost use Rattle.whole_files.specs.Planned.{text_in, plans_of, plan_for};
-ghost use Rattle.whole_files.specs.WholeFile.{from_path};
 
 use crate::files::FileSet;
 use crate::moves::{Move, discard_one, move_in, path_of, place_one};
@@ -25,7 +26,7 @@ use std::alloc::Global;
 use std::io::Write;
 use std::thread::Threads;
 
-// The names of the tables, in the order in which they get their places.
+/// The names of the tables, in the order in which they get their places.
 const COMMANDS: &str = "commands.csv";
 
 const STATS: &str = "stats.csv";
@@ -34,7 +35,7 @@ const FINAL: &str = "final.csv";
 
 const REQUESTS: &str = "requests.csv";
 
-// What a table of a run is written from. The numbers are the ranks of each channel.
+/// What a table of a run is written from. The numbers are the ranks of each channel.
 #[derive(Clone, Copy)]
 enum Contents<'a> {
     Commands(u32, &'a CommandTable),
@@ -43,21 +44,21 @@ enum Contents<'a> {
     Requests(&'a RequestTable),
 }
 
-// A table that is to be written, and its way to its place.
+/// A table that is to be written, and its way to its place.
 #[derive(Drop)]
 struct PlannedTable<'a> {
     contents: Contents<'a>,
     way: Move,
 }
 
-// Writes what a table holds.
+/// Writes what a table holds.
 fn write_contents<R: Threads + Sync, W: Write>(
     threads: &TableThreads<'_, R>,
     contents: &Contents<'_>,
     writer: &mut W,
 ) -> Result<(), Fault>
     ensures written { WritesOnOk result W.contents writer.old writer.new (text_in contents.now) }
-    ensures refused { IfErr result (λ e. IsReportFault e) }
+    ensures refused { IfErr result (λ e. IsWriteFault e) }
 {
     match contents {
         Contents::Commands(ranks, commands) => {
@@ -71,7 +72,7 @@ fn write_contents<R: Threads + Sync, W: Write>(
     }
 }
 
-// Writes a table under the name that ends in `.part`.
+/// Writes a table under the name that ends in `.part`.
 fn stage_one<R: Threads + Sync, F: FileSet>(
     threads: &TableThreads<'_, R>,
     files: &mut F,
@@ -93,7 +94,7 @@ fn stage_one<R: Threads + Sync, F: FileSet>(
     files.close(threads.alloc, path, out)
 }
 
-// Adds a table to those that are to be written, if there is one.
+/// Adds a table to those that are to be written, if there is one.
 fn plan<'a>(
     alloc: Global,
     folder: &str,
@@ -116,7 +117,7 @@ fn plan<'a>(
     }
 }
 
-// The contents of a table, if it is asked for.
+/// The contents of a table, if it is asked for.
 fn if_asked<'a>(asked: bool, contents: Contents<'a>) -> Option<Contents<'a>>
     ensures { result ≡ if_asked asked contents.entry }
 {
@@ -141,7 +142,7 @@ fn requests_in(run: &Outcome) -> Option<Contents<'_>>
     }
 }
 
-// The tables of an outcome that are asked for, with their ways to their places in a folder.
+/// The tables of an outcome that are asked for, with their ways to their places in a folder.
 fn plan_all<'a>(
     alloc: Global,
     folder: &str,
@@ -161,15 +162,15 @@ fn plan_all<'a>(
     Ok(planned)
 }
 
-// The name under which a table is written.
+/// The name under which a table is written.
 fn part_name(alloc: Global, name: &str) -> Result<String, Fault>
-    ensures name { IfOk result (λ part. string_bytes part ≡ part_name name.now) }
+    ensures name { IfOk result (λ part. string_bytes part ≡ part_of name.now) }
     ensures fault { IfErr result (λ e. e ≡ Fault.Memory) }
 {
     Ok(format!(in alloc; "{name}.part")?)
 }
 
-// Adds the path of a name in a folder.
+/// Adds the path of a name in a folder.
 fn add_path(alloc: Global, folder: &str, name: &str, paths: &mut Vec<String>) -> Result<(), Fault>
     ensures paths { OnOk result (map string_bytes paths.new.items
         ≡ map string_bytes paths.old.items ++ path_in folder.now name.now ∷ []) }
@@ -181,8 +182,8 @@ fn add_path(alloc: Global, folder: &str, name: &str, paths: &mut Vec<String>) ->
     }
 }
 
-// Adds the paths at which a table may stand that is not asked for: its own, and, where a run was killed that was asked
-// for it, the one at which it was written.
+/// Adds the paths at which a table may stand that is not asked for: its own, and, where a run was killed that was asked
+/// for it, the one at which it was written.
 fn add_other(
     alloc: Global,
     folder: &str,
@@ -201,7 +202,7 @@ fn add_other(
     add_path(alloc, folder, part_name(alloc, name)?.as_str(), paths)
 }
 
-// The paths at which tables may stand that are not asked for.
+/// The paths at which tables may stand that are not asked for.
 fn others_of(alloc: Global, folder: &str, run: &Outcome) -> Result<Vec<String>, Fault>
     ensures paths { IfOk result (λ paths.
         map string_bytes paths.items ≡ other_paths folder.now run.now) }
@@ -215,7 +216,7 @@ fn others_of(alloc: Global, folder: &str, run: &Outcome) -> Result<Vec<String>, 
     Ok(paths)
 }
 
-// Writes the tables, one after the other, under the names that end in `.part`.
+/// Writes the tables, one after the other, under the names that end in `.part`.
 fn stage<R: Threads + Sync, F: FileSet>(
     threads: &TableThreads<'_, R>,
     files: &mut F,
@@ -235,7 +236,7 @@ fn stage<R: Threads + Sync, F: FileSet>(
     Ok(())
 }
 
-// Tests whether each table could get its place.
+/// Tests whether each table could get its place.
 fn test_places<F: FileSet>(files: &mut F, planned: &[PlannedTable<'_>]) -> Result<(), Reason>
     ensures fault { IfErr result (λ e. IsWriteFault e) }
     ensures same { F.tells → SameFiles (F.held files.old) (F.held files.new) }
@@ -247,7 +248,7 @@ fn test_places<F: FileSet>(files: &mut F, planned: &[PlannedTable<'_>]) -> Resul
     Ok(())
 }
 
-// Tests whether what may stand at these paths could be removed, as if it was replaced.
+/// Tests whether what may stand at these paths could be removed, as if it was replaced.
 fn test_others<F: FileSet>(files: &mut F, others: &[String]) -> Result<(), Reason>
     ensures fault { IfErr result (λ e. IsWriteFault e) }
     ensures same { F.tells → SameFiles (F.held files.old) (F.held files.new) }
@@ -259,7 +260,7 @@ fn test_others<F: FileSet>(files: &mut F, others: &[String]) -> Result<(), Reaso
     Ok(())
 }
 
-// The refusal where a table could not get its place, after others got theirs or not.
+/// The refusal where a table could not get its place, after others got theirs or not.
 fn refusal_of(reason: Reason, placed: bool) -> Refusal
     ensures fault { fault_of result ≡ reason }
     ensures kept { IsKept result → placed ≡ false }
@@ -272,7 +273,7 @@ fn refusal_of(reason: Reason, placed: bool) -> Refusal
     }
 }
 
-// Gives the tables their places, one right after the other.
+/// Gives the tables their places, one right after the other.
 fn place<F: FileSet>(
     alloc: Global,
     files: &mut F,
@@ -298,8 +299,8 @@ fn place<F: FileSet>(
     Ok(())
 }
 
-// Removes all that was written under the names that end in `.part`, in reverse order: if only the first is gone, the
-// others are whole and wait for their places.
+/// Removes all that was written under the names that end in `.part`, in reverse order: if only the first is gone, the
+/// others are whole and wait for their places.
 fn discard<F: FileSet>(files: &mut F, planned: &[PlannedTable<'_>])
     ensures gone { F.tells → AreGone (plans_of planned.now) (F.held files.new) }
     ensures others { F.tells
@@ -312,7 +313,7 @@ fn discard<F: FileSet>(files: &mut F, planned: &[PlannedTable<'_>])
     }
 }
 
-// Removes what stands at these paths, as far as that can be.
+/// Removes what stands at these paths, as far as that can be.
 fn remove_all<F: FileSet>(files: &mut F, paths: &[String])
     ensures removed { F.tells → AreRemoved (map string_bytes paths.now) (F.held files.new) }
     ensures others { F.tells
@@ -324,7 +325,7 @@ fn remove_all<F: FileSet>(files: &mut F, paths: &[String])
     }
 }
 
-// Tests whether all places are free or may give way.
+/// Tests whether all places are free or may give way.
 fn test_all<F: FileSet>(
     files: &mut F,
     planned: &[PlannedTable<'_>],
@@ -338,8 +339,8 @@ fn test_all<F: FileSet>(
     test_others(files, others)
 }
 
-// Writes the tables that are planned, and gives them their places. Faults that can be found beforehand are refused
-// before the first has its place.
+/// Writes the tables that are planned, and gives them their places. Faults that can be found beforehand are refused
+/// before the first has its place.
 fn write_planned<R: Threads + Sync, F: FileSet>(
     threads: &TableThreads<'_, R>,
     files: &mut F,

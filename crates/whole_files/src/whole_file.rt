@@ -1,7 +1,8 @@
 //! A file that is written whole or not at all.
 
 ghost use Rattle.std.specs.Prelude.{◌≡◌, ◌++◌, ◌∷◌, [], List, ℕ, Some, IfErr, OnOk, OnErr};
-ghost use Rattle.whole_files.specs.Files.{SameFiles, SameBut, IsWriteFault};
+ghost use Rattle.whole_files.specs.Files.{SameFiles, SameBut};
+ghost use Rattle.sim_base.specs.Faults.{IsWriteFault};
 ghost use Rattle.whole_files.specs.WholeFile.{from_path, part_of, IsMoveTo, GetsPlace, IsWhole, IsUnwritten};
 
 use crate::files::FileSet;
@@ -11,7 +12,7 @@ use sim_base::fault::Fault;
 use std::alloc::Global;
 use std::io::Write;
 
-// Writes a text under a path.
+/// Writes a text under a path.
 fn stage_text<F: FileSet>(
     alloc: Global,
     files: &mut F,
@@ -31,8 +32,8 @@ fn stage_text<F: FileSet>(
     files.close(alloc, path, out)
 }
 
-// Gives a written file its place, if possible.
-fn settle<F: FileSet>(alloc: Global, files: &mut F, way: &Move) -> Result<(), Reason>
+/// Gives a written file its place, if possible.
+fn give_place<F: FileSet>(alloc: Global, files: &mut F, way: &Move) -> Result<(), Reason>
     ensures renamed { OnOk result (F.tells
         → GetsPlace way.now (F.held files.old) (F.held files.new)) }
     ensures refused { OnErr result (F.tells → SameFiles (F.held files.old) (F.held files.new)) }
@@ -43,7 +44,7 @@ fn settle<F: FileSet>(alloc: Global, files: &mut F, way: &Move) -> Result<(), Re
     place_one(alloc, files, way)
 }
 
-// Writes a text, and gives it its place.
+/// Writes a text, and gives it its place.
 fn write_by<F: FileSet>(alloc: Global, files: &mut F, way: &Move, text: &[u8]) -> Result<(), Reason>
     ensures whole { OnOk result ((path : List ℕ) → IsMoveTo path way.now → F.tells
         → IsWhole path text.now (F.held files.old) (F.held files.new)) }
@@ -54,7 +55,7 @@ fn write_by<F: FileSet>(alloc: Global, files: &mut F, way: &Move, text: &[u8]) -
         → SameBut (from_path way.now) (F.held files.old) (F.held files.new)) }
 {
     stage_text(alloc, files, way.from.as_str(), text)?;
-    settle(alloc, files, way)
+    give_place(alloc, files, way)
 }
 
 /// Writes a file. It is written under its path with `.part` appended, and gets its place when it is whole. If that

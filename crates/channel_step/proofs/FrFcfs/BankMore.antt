@@ -13,7 +13,7 @@ use Rattle.sim_base.specs.declared.message.Access.{Access}
 use Rattle.sim_base.specs.declared.message.Access.TheVariants as access
 use Rattle.sim_base.specs.declared.message.Request.{Request}
 use Rattle.sim_base.specs.Access.{is_access}
-use Rattle.sim_base.specs.Places.{bank_in}
+use Rattle.sim_base.specs.Places.{bank_in, bank_at}
 use Rattle.sim_base.specs.Rules.{is_legal, is_allowed, is_kind, finds_its_banks, open_row, is_row, kind_of, bank_of}
 use Rattle.sim_base.specs.Scheduling.{needed, ready_hit, ready_row, is_withheld}
 use Rattle.bank_ready.specs.Ready.{ready_from}
@@ -27,15 +27,15 @@ use Rattle.queue.specs.declared.bank_candidates.entry.CandidatesOfBank.{Candidat
 use Rattle.queue.specs.declared.bank_candidates.entry.AccessCandidates.{AccessCandidates}
 use Rattle.queue.specs.declared.bank_candidates.all_banks.BankCandidates.{BankCandidates}
 use Rattle.queue.specs.Stands.{candidates_of_bank, candidates_to}
-use Rattle.queue.specs.Candidates.{bank_at, hits, first_place, AreFirst, AreCandidates}
-use Rattle.queue.specs.Moves.{earlier}
+use Rattle.queue.specs.Candidates.{hits, first_place, AreFirst, AreCandidates}
+use Rattle.sim_base.specs.Earlier.{earlier}
 use Rattle.queue.proofs.Searches.{none_everywhere}
 use Rattle.sim_base.proofs.Lists.{none-is}
 use Rattle.queue.proofs.BankCandidatesServed.{earlier_none}
 use Rattle.channel_step.specs.declared.fr_fcfs.accesses.Accesses.{Accesses}
 use Rattle.channel_step.specs.declared.fr_fcfs.offers.Offer.{Offer}
-use Rattle.channel_step.specs.FrFcfs.Requests.{IsInBanks, is_hit}
-use Rattle.channel_step.specs.FrFcfs.Offers.{includes, is_of, only, column_kind, if_allowed, hit_candidate, oldest_candidate, going, hits_now, hits_in, rows_now, rows_in, offer_from, row_kind, IsReadyFrom, IsBestOffer, IsBestSoFar}
+use Rattle.channel_step.specs.FrFcfs.Requests.{IsInBanks, finds_row_open}
+use Rattle.channel_step.specs.FrFcfs.Offers.{includes, is_of, only, column_kind, if_allowed, hit_candidate, oldest_candidate, going, hits_now, hits_in, row_requests_now, row_requests_in, offer_from, row_kind, IsReadyFrom, IsBestOffer, IsBestSoFar}
 use Rattle.channel_step.proofs.FrFcfs.Legal.{needed_bank}
 use Rattle.channel_step.proofs.FrFcfs.Firsts.{same_among, either_among, place_if}
 use Rattle.channel_step.proofs.FrFcfs.Bests.{hit_offer_is, row_offer_is, best_same}
@@ -84,7 +84,7 @@ unfolding ready_hit
 hits_of_access s history ranks log access bank h ready places first row_is from cycle =
     same_among (λ r. eqb (bank_number r.place) bank && hits_now s history (only access) cycle r) (λ r. leb ready cycle && hits bank access h.row r) (IsInBanks ranks) log places
     (λ r in_banks.
-    hit_test (eqb (bank_number r.place) bank) r.access access (leb ready cycle) (is_hit history r) (is_row r.place.row h.row) (is_legal s history cycle (needed history r))
+    hit_test (eqb (bank_number r.place) bank) r.access access (leb ready cycle) (finds_row_open history r) (is_row r.place.row h.row) (is_legal s history cycle (needed history r))
     (row_hit_is history ranks r bank h.row in_banks row_is)
     (λ here same hit. legal_then s history ranks r bank (column_kind access) ready in_banks from here (hit_kind history r hit ∙ ap column_kind same) cycle))
     ∙ place_if (leb ready cycle) (hits bank access h.row) log
@@ -93,9 +93,9 @@ hits_of_access s history ranks log access bank h ready places first row_is from 
 -- what a bank offers to those that ask for its open row
 pub access_hit : (s : Config) (history : List IssuedCommand) (ranks : ℕ) (log : List Arrived) (access : Access) (bank : ℕ) (h : CandidatesOfBank) (ready now place : ℕ) → All (IsInBanks ranks) (all_requests log)
     → AreCandidates log bank h → h.row ≡ open_row (bank_at bank) history → IsReadyFrom s history (bank_at bank) (column_kind access) ready → (access_candidates access h).hit ≡ Some place
-    → IsBestOffer now (hits_in s history log (only access) bank) (rows_in s history log (only access) bank) (offer_from now ready true place)
+    → IsBestOffer now (hits_in s history log (only access) bank) (row_requests_in s history log (only access) bank) (offer_from now ready true place)
 access_hit s history ranks log access bank h ready now place places first row_is from hit =
-    best_same now (λ c. cond (leb ready c) (Some place) None) (λ c. None) (hits_in s history log (only access) bank) (rows_in s history log (only access) bank)
+    best_same now (λ c. cond (leb ready c) (Some place) None) (λ c. None) (hits_in s history log (only access) bank) (row_requests_in s history log (only access) bank)
     (Some (offer_from now ready true place))
     (λ c late. sym (hits_of_access s history ranks log access bank h ready places first row_is from c ∙ ap (λ o. cond (leb ready c) o None) hit))
     (λ c late. sym (rows_withheld s history ranks log (only access) bank h places first row_is (ap is_some (hit_only access h ∙ hit)) c)) (hit_offer_is now ready (Some place))
@@ -118,9 +118,9 @@ within_accesses log accesses bank h first =
 accesses_row : (s : Config) (history : List IssuedCommand) (ranks : ℕ) (log : List Arrived) (accesses : Accesses) (bank : ℕ) (h : CandidatesOfBank) (ready now place : ℕ) → All (IsInBanks ranks) (all_requests log)
     → AreCandidates log bank h → h.row ≡ open_row (bank_at bank) history → IsReadyFrom s history (bank_at bank) (row_kind h.row) ready → hit_candidate accesses h ≡ None
     → oldest_candidate accesses h ≡ Some place
-    → IsBestOffer now (hits_in s history log accesses bank) (rows_in s history log accesses bank) (offer_from now ready false place)
+    → IsBestOffer now (hits_in s history log accesses bank) (row_requests_in s history log accesses bank) (offer_from now ready false place)
 accesses_row s history ranks log accesses bank h ready now place places first row_is from none oldest =
-    best_same now (λ c. None) (λ c. cond (leb ready c) (Some place) None) (hits_in s history log accesses bank) (rows_in s history log accesses bank)
+    best_same now (λ c. None) (λ c. cond (leb ready c) (Some place) None) (hits_in s history log accesses bank) (row_requests_in s history log accesses bank)
     (Some (offer_from now ready false place)) (λ c late. sym (no_hits s history ranks log accesses bank h places first row_is none c))
     (λ c late. sym (rows_are s history ranks log accesses bank h ready places first row_is from (ap is_some none) c ∙ ap (λ o. cond (leb ready c) o None) oldest))
     (row_offer_is now ready (Some place))
@@ -130,20 +130,20 @@ pub row_more : (s : Config) (history : List IssuedCommand) (ranks : ℕ) (log : 
     (best after : Offer) → ready ≤ 18446744073709551615 → now ≤ 18446744073709551615 → All (IsInBanks ranks) (all_requests log) → AreCandidates log bank h
     → h.row ≡ open_row (bank_at bank) history → IsReadyFrom s history (bank_at bank) (row_kind h.row) ready → is_some (hit_candidate accesses h) ≡ false
     → (candidate : Option ℕ) → oldest_candidate accesses h ≡ candidate → IsTaken candidate now ready false best after → IsBestSoFar (length log) now hits rows best
-    → IsBestSoFar (length log) now hits (λ c. earlier (rows c) (rows_in s history log accesses bank c)) after
+    → IsBestSoFar (length log) now hits (λ c. earlier (rows c) (row_requests_in s history log accesses bank c)) after
 row_more s history ranks log accesses bank h ready now hits rows best after ready_fits now_fits places first row_is from no_hit None oldest step so_far =
-    so_far_same (length log) now hits rows hits (λ c. earlier (rows c) (rows_in s history log accesses bank c)) after (λ c late. refl)
+    so_far_same (length log) now hits rows hits (λ c. earlier (rows c) (row_requests_in s history log accesses bank c)) after (λ c late. refl)
     (λ c late. sym (ap (earlier (rows c)) (none_offered log accesses bank h _ first oldest) ∙ earlier_none (rows c)))
     (subst (IsBestSoFar (length log) now hits rows) (sym (step.none refl)) so_far)
 row_more s history ranks log accesses bank h ready now hits rows best after ready_fits now_fits places first row_is from no_hit (Some place) oldest step so_far =
     let none = none-is (hit_candidate accesses h) no_hit in
     let inside : place < length log = subst (λ o. IfSome o (λ k. k < length log)) oldest (within_accesses log accesses bank h first) in
-    so_far_same (length log) now (λ c. earlier (hits c) (hits_in s history log accesses bank c)) (λ c. earlier (rows c) (rows_in s history log accesses bank c)) hits
-    (λ c. earlier (rows c) (rows_in s history log accesses bank c)) after
+    so_far_same (length log) now (λ c. earlier (hits c) (hits_in s history log accesses bank c)) (λ c. earlier (rows c) (row_requests_in s history log accesses bank c)) hits
+    (λ c. earlier (rows c) (row_requests_in s history log accesses bank c)) after
     (λ c late. ap (earlier (hits c)) (no_hits s history ranks log accesses bank h places first row_is none c) ∙ earlier_none (hits c)) (λ c late. refl)
-    (subst (IsBestSoFar (length log) now (λ c. earlier (hits c) (hits_in s history log accesses bank c)) (λ c. earlier (rows c) (rows_in s history log accesses bank c)))
+    (subst (IsBestSoFar (length log) now (λ c. earlier (hits c) (hits_in s history log accesses bank c)) (λ c. earlier (rows c) (row_requests_in s history log accesses bank c)))
     (sym (step.some place refl))
-    (one_more (length log) now hits rows (hits_in s history log accesses bank) (rows_in s history log accesses bank) best (offer_from now ready false place) inside (omega arith) so_far
+    (one_more (length log) now hits rows (hits_in s history log accesses bank) (row_requests_in s history log accesses bank) best (offer_from now ready false place) inside (omega arith) so_far
     (accesses_row s history ranks log accesses bank h ready now place places first row_is from none oldest)))
 
 -- the best offer so far with the row hit of a bank for one access
@@ -158,18 +158,18 @@ hit_more s history ranks log access bank h ready now hits rows best after ready_
     (subst (IsBestSoFar (length log) now hits rows) (sym (step.none refl)) so_far)
 hit_more s history ranks log access bank h ready now hits rows best after ready_fits now_fits places first row_is from (Some place) hit step so_far =
     let inside : place < length log = subst (λ o. IfSome o (λ k. k < length log)) hit (within _ log (access_candidates access h).hit (access_first access log bank h first).hit_is) in
-    so_far_same (length log) now (λ c. earlier (hits c) (hits_in s history log (only access) bank c)) (λ c. earlier (rows c) (rows_in s history log (only access) bank c))
+    so_far_same (length log) now (λ c. earlier (hits c) (hits_in s history log (only access) bank c)) (λ c. earlier (rows c) (row_requests_in s history log (only access) bank c))
     (λ c. earlier (hits c) (hits_in s history log (only access) bank c)) rows after (λ c late. refl)
     (λ c late. ap (earlier (rows c)) (rows_withheld s history ranks log (only access) bank h places first row_is (ap is_some (hit_only access h ∙ hit)) c) ∙ earlier_none (rows c))
-    (subst (IsBestSoFar (length log) now (λ c. earlier (hits c) (hits_in s history log (only access) bank c)) (λ c. earlier (rows c) (rows_in s history log (only access) bank c)))
+    (subst (IsBestSoFar (length log) now (λ c. earlier (hits c) (hits_in s history log (only access) bank c)) (λ c. earlier (rows c) (row_requests_in s history log (only access) bank c)))
     (sym (step.some place refl))
-    (one_more (length log) now hits rows (hits_in s history log (only access) bank) (rows_in s history log (only access) bank) best (offer_from now ready true place) inside (omega arith) so_far
+    (one_more (length log) now hits rows (hits_in s history log (only access) bank) (row_requests_in s history log (only access) bank) best (offer_from now ready true place) inside (omega arith) so_far
     (access_hit s history ranks log access bank h ready now place places first row_is from hit)))
 
 -- a bank that is not asked for, or has a row hit, offers nothing else
 pub row_none : (s : Config) (history : List IssuedCommand) (ranks : ℕ) (log : List Arrived) (accesses : Accesses) (bank : ℕ) (h : CandidatesOfBank) → All (IsInBanks ranks) (all_requests log)
     → AreCandidates log bank h → h.row ≡ open_row (bank_at bank) history → (is_some (oldest_candidate accesses h) && not (is_some (hit_candidate accesses h))) ≡ false → (cycle : ℕ)
-    → rows_in s history log accesses bank cycle ≡ None
+    → row_requests_in s history log accesses bank cycle ≡ None
 row_none s history ranks log accesses bank h places first row_is left cycle = elim (cases_Bool (is_some (hit_candidate accesses h))) [
   | inl hit ↦ rows_withheld s history ranks log accesses bank h places first row_is hit cycle
   | inr no_hit ↦
@@ -220,7 +220,7 @@ none_goes rows goes test log off cycle =
     sym (earlier_none (rows cycle))
     ∙ ap (earlier (rows cycle)) (sym (ap (λ b. cond b (first_place (test cycle) log) None) off) ∙ sym (place_if goes (test cycle) log))
 
--- and of one that does
+-- the places of a kind of requests that goes
 pub all_go : (goes : Bool) (test : Request → Bool) (log : List Arrived) → goes ≡ true → first_place (λ r. goes && test r) log ≡ first_place test log
 all_go goes test log on = place_if goes test log ∙ ap (λ b. cond b (first_place test log) None) on
 
@@ -231,7 +231,7 @@ pub hit_none : (s : Config) (history : List IssuedCommand) (ranks : ℕ) (log : 
 hit_none s history ranks log access bank h places first row_is none cycle =
     no_hits s history ranks log (only access) bank h places first row_is (hit_only access h ∙ none-is (access_candidates access h).hit none) cycle
 
--- no command of a kind to some bank of so many ranks is allowed before this cycle
+-- no command of a kind to a bank of `ranks` ranks is allowed before this cycle
 abbrev pub IsFloor : Config → List IssuedCommand → ℕ → Kind → ℕ → Type 0
 IsFloor s history ranks k floor =
     (command : Command) (cycle bank : ℕ) → kind_of command ≡ k → bank_of command ≡ Some (bank_at bank) → bank < 16 * ranks → IsAllowedFrom s history command cycle → floor ≤ cycle
@@ -258,7 +258,7 @@ hit_after : (s : Config) (history : List IssuedCommand) (ranks : ℕ) (r : Reque
 unfolding ready_hit needed
 hit_after s history ranks r access floor cycle in_banks least now_is =
     let outer = and_parts (is_of (only access) r) (ready_hit s history cycle r) now_is in
-    let parts = and_parts (is_hit history r) (is_legal s history cycle (needed history r)) outer.1 in
+    let parts = and_parts (finds_row_open history r) (is_legal s history cycle (needed history r)) outer.1 in
     let bank = bank_number r.place in
     let command = needed history r in
     let kind_is : kind_of command ≡ column_kind access = hit_kind history r parts.0 ∙ ap column_kind (same_access r.access access outer.0) in
@@ -279,16 +279,16 @@ hits_before s history ranks log access floor places least cycle early =
     ∙ sym (none_everywhere (λ r. false) log (λ r. refl))
 
 act_after : (s : Config) (history : List IssuedCommand) (ranks : ℕ) (log : List Arrived) (accesses : Accesses) (r : Request) (floor cycle : ℕ) → IsInBanks ranks r → Ascends history
-    → IsFloor s history ranks kind.Act floor → open_row (bank_in r.place) history ≡ None → rows_now s history log accesses cycle r ≡ true → floor ≤ cycle
+    → IsFloor s history ranks kind.Act floor → open_row (bank_in r.place) history ≡ None → row_requests_now s history log accesses cycle r ≡ true → floor ≤ cycle
 unfolding ready_row needed
 act_after s history ranks log accesses r floor cycle in_banks up least closed now_is =
     let cands = going accesses log in
     let outer = and_parts (is_of accesses r) (ready_row s history cycle cands r) now_is in
-    let inner = and_parts (not (is_hit history r) && is_legal s history cycle (needed history r)) (not (is_withheld history cands (needed history r))) outer.1 in
-    let parts = and_parts (not (is_hit history r)) (is_legal s history cycle (needed history r)) inner.0 in
+    let inner = and_parts (not (finds_row_open history r) && is_legal s history cycle (needed history r)) (not (is_withheld history cands (needed history r))) outer.1 in
+    let parts = and_parts (not (finds_row_open history r)) (is_legal s history cycle (needed history r)) inner.0 in
     let bank = bank_number r.place in
     let command = needed history r in
-    let kind_is : kind_of command ≡ kind.Act = row_kind_at (open_row (bank_in r.place) history) r (not-true (is_hit history r) parts.0) ∙ ap row_kind closed in
+    let kind_is : kind_of command ≡ kind.Act = row_kind_at (open_row (bank_in r.place) history) r (not-true (finds_row_open history r) parts.0) ∙ ap row_kind closed in
     let bank_is_at : bank_of command ≡ Some (bank_at bank) = needed_bank (open_row (bank_in r.place) history) r ∙ ap Some (bank_is ranks r bank in_banks (eq-eqb bank bank refl)) in
     let allowed = λ (now : ℕ). allowed-act s.timing history now command (bank_at bank) up kind_is bank_is_at in
     let late = (allowed cycle).1 (allowed_too s history cycle command parts.1) in
@@ -299,13 +299,13 @@ act_after s history ranks log accesses r floor cycle in_banks up least closed no
 -- no ACT for a closed bank is ready before it
 pub acts_before : (s : Config) (history : List IssuedCommand) (ranks : ℕ) (log : List Arrived) (accesses : Accesses) (closed : ℕ → Bool) (floor : ℕ) → All (IsInBanks ranks) (all_requests log)
     → Ascends history → IsFloor s history ranks kind.Act floor → ((bank : ℕ) → closed bank ≡ true → open_row (bank_at bank) history ≡ None) → (cycle : ℕ) → cycle < floor
-    → first_place (λ r. closed (bank_number r.place) && rows_now s history log accesses cycle r) log ≡ None
+    → first_place (λ r. closed (bank_number r.place) && row_requests_now s history log accesses cycle r) log ≡ None
 acts_before s history ranks log accesses closed floor places up least none cycle early =
-    same_among (λ r. closed (bank_number r.place) && rows_now s history log accesses cycle r) (λ r. false) (IsInBanks ranks) log places
+    same_among (λ r. closed (bank_number r.place) && row_requests_now s history log accesses cycle r) (λ r. false) (IsInBanks ranks) log places
     (λ r in_banks.
-    false_from_ne_true (closed (bank_number r.place) && rows_now s history log accesses cycle r)
+    false_from_ne_true (closed (bank_number r.place) && row_requests_now s history log accesses cycle r)
     (λ both.
-    let parts = and_parts (closed (bank_number r.place)) (rows_now s history log accesses cycle r) both in
+    let parts = and_parts (closed (bank_number r.place)) (row_requests_now s history log accesses cycle r) both in
     let row_is = ap (λ b. open_row b history) (bank_is ranks r (bank_number r.place) in_banks (eq-eqb (bank_number r.place) (bank_number r.place) refl)) ∙ none (bank_number r.place) parts.0 in
     let late = act_after s history ranks log accesses r floor cycle in_banks up least row_is parts.1 in absurd (omega arith)))
     ∙ sym (none_everywhere (λ r. false) log (λ r. refl))

@@ -12,7 +12,7 @@ use Rattle.sim_base.specs.declared.message.Access.{Access}
 use Rattle.sim_base.specs.declared.message.Access.TheVariants as access
 use Rattle.sim_base.specs.declared.message.Request.{Request}
 use Rattle.sim_base.specs.Access.{is_access}
-use Rattle.sim_base.specs.Places.{bank_in, is_bank}
+use Rattle.sim_base.specs.Places.{bank_in, is_bank, bank_at}
 use Rattle.sim_base.specs.Rules.{is_legal, open_row, is_row, kind_of}
 use Rattle.sim_base.specs.Scheduling.{needed, needed_at, column_command_to, column_command, source_of, is_column_command, has_hit, is_withheld, is_row_hit, ready_hit, ready_row}
 use Rattle.sim_base.proofs.Lists.{eqb-swap}
@@ -20,13 +20,13 @@ use Rattle.queue.specs.declared.request_log.Arrived.{Arrived}
 use Rattle.queue.specs.Log.{all_requests}
 use Rattle.queue.specs.Columns.{bank_number}
 use Rattle.queue.specs.declared.bank_candidates.entry.CandidatesOfBank.{CandidatesOfBank}
-use Rattle.queue.specs.Candidates.{bank_at, asks, hits, first_place, AreCandidates}
-use Rattle.queue.specs.Moves.{earlier}
+use Rattle.queue.specs.Candidates.{asks, hits, first_place, AreCandidates}
+use Rattle.sim_base.specs.Earlier.{earlier}
 use Rattle.queue.proofs.Stood.{bank_named}
 use Rattle.queue.proofs.Searches.{none_everywhere, none_narrower_all}
-use Rattle.channel_step.specs.FrFcfs.Requests.{IsInBanks, is_hit}
+use Rattle.channel_step.specs.FrFcfs.Requests.{IsInBanks, finds_row_open}
 use Rattle.channel_step.specs.declared.fr_fcfs.accesses.Accesses.{Accesses}
-use Rattle.channel_step.specs.FrFcfs.Offers.{includes, is_of, column_kind, if_allowed, hit_candidate, oldest_candidate, going, hits_now, rows_now, hits_in, rows_in, IsReadyFrom, row_kind}
+use Rattle.channel_step.specs.FrFcfs.Offers.{includes, is_of, column_kind, if_allowed, hit_candidate, oldest_candidate, going, hits_now, row_requests_now, hits_in, row_requests_in, IsReadyFrom, row_kind}
 use Rattle.channel_step.proofs.FrFcfs.Legal.{needed_bank, hit_is, column_needed, finds_needed, legal_at, withheld_is}
 use Rattle.channel_step.proofs.FrFcfs.Firsts.{same_among, either_among, place_if, same_unless, any_going}
 
@@ -49,7 +49,7 @@ bank_is ranks r bank places same =
 
 -- a request of a bank asks for its open row
 pub row_hit_is : (history : List IssuedCommand) (ranks : ℕ) (r : Request) (bank : ℕ) (row : Option ℕ) → IsInBanks ranks r → row ≡ open_row (bank_at bank) history
-    → eqb (bank_number r.place) bank ≡ true → is_hit history r ≡ is_row r.place.row row
+    → eqb (bank_number r.place) bank ≡ true → finds_row_open history r ≡ is_row r.place.row row
 row_hit_is history ranks r bank row places row_is here =
     hit_is history r ∙ ap (λ b. is_row r.place.row (open_row b history)) (bank_is ranks r bank places here) ∙ ap (is_row r.place.row) (sym row_is)
 
@@ -57,7 +57,7 @@ kind_to : (access : Access) (r : Request) → kind_of (column_command_to access 
 kind_to access.Read r = refl
 kind_to access.Write r = refl
 
-pub hit_kind : (history : List IssuedCommand) (r : Request) → is_hit history r ≡ true → kind_of (needed history r) ≡ column_kind r.access
+pub hit_kind : (history : List IssuedCommand) (r : Request) → finds_row_open history r ≡ true → kind_of (needed history r) ≡ column_kind r.access
 unfolding needed
 hit_kind history r hit = ap kind_of (column_needed (open_row (bank_in r.place) history) r hit) ∙ kind_to r.access r
 
@@ -144,21 +144,21 @@ both_allowed false a b ka kb = λ i. earlier (cond (and-false ka i) a None) (con
 pub rows_are : (s : Config) (history : List IssuedCommand) (ranks : ℕ) (log : List Arrived) (accesses : Accesses) (bank : ℕ) (h : CandidatesOfBank) (ready : ℕ)
     → All (IsInBanks ranks) (all_requests log) → AreCandidates log bank h → h.row ≡ open_row (bank_at bank) history → IsReadyFrom s history (bank_at bank) (row_kind h.row) ready
     → is_some (hit_candidate accesses h) ≡ false → (cycle : ℕ)
-    → rows_in s history log accesses bank cycle ≡ cond (leb ready cycle) (oldest_candidate accesses h) None
+    → row_requests_in s history log accesses bank cycle ≡ cond (leb ready cycle) (oldest_candidate accesses h) None
 unfolding ready_row needed
 rows_are s history ranks log accesses bank h ready places first row_is from none cycle =
     let cands = going accesses log in
-    same_unless (λ r. eqb (bank_number r.place) bank && rows_now s history log accesses cycle r)
+    same_unless (λ r. eqb (bank_number r.place) bank && row_requests_now s history log accesses cycle r)
     (λ r. ((accesses.reads && leb ready cycle) && asks bank access.Read r) || ((accesses.writes && leb ready cycle) && asks bank access.Write r)) (wants_row accesses bank h.row) (IsInBanks ranks) log
     (hit_candidate_is ranks log accesses bank h places first ∙ is_none (hit_candidate accesses h) none) places
     (λ r in_banks off.
-    row_test (eqb (bank_number r.place) bank) r.access accesses.reads accesses.writes (is_hit history r) (is_row r.place.row h.row) (is_legal s history cycle (needed history r)) (leb ready cycle)
+    row_test (eqb (bank_number r.place) bank) r.access accesses.reads accesses.writes (finds_row_open history r) (is_row r.place.row h.row) (is_legal s history cycle (needed history r)) (leb ready cycle)
     (is_withheld history cands (needed history r)) (row_hit_is history ranks r bank h.row in_banks row_is)
     (λ here other. legal_then s history ranks r bank (row_kind h.row) ready in_banks from here (kind_here r in_banks here other) cycle)
     (λ here.
     withheld_is history cands r
-    ∙ ap (λ b. has_hit history cands b && not (is_hit history r)) (bank_is ranks r bank in_banks here)
-    ∙ ap (λ b. b && not (is_hit history r)) (has_hit_is history ranks log accesses bank h places first row_is ∙ none))
+    ∙ ap (λ b. has_hit history cands b && not (finds_row_open history r)) (bank_is ranks r bank in_banks here)
+    ∙ ap (λ b. b && not (finds_row_open history r)) (has_hit_is history ranks log accesses bank h places first row_is ∙ none))
     off)
     ∙ either_among (λ r. ((accesses.reads && leb ready cycle) && asks bank access.Read r) || ((accesses.writes && leb ready cycle) && asks bank access.Write r)) (λ r. (accesses.reads && leb ready cycle) && asks bank access.Read r)
     (λ r. (accesses.writes && leb ready cycle) && asks bank access.Write r) (IsInBanks ranks) log places (λ r in_banks. refl)
@@ -170,7 +170,7 @@ rows_are s history ranks log accesses bank h ready places first row_is from none
     is_none None off = refl
     is_none (Some k) off = cc
 
-    kind_here : (r : Request) → IsInBanks ranks r → eqb (bank_number r.place) bank ≡ true → is_hit history r ≡ false → kind_of (needed history r) ≡ row_kind h.row
+    kind_here : (r : Request) → IsInBanks ranks r → eqb (bank_number r.place) bank ≡ true → finds_row_open history r ≡ false → kind_of (needed history r) ≡ row_kind h.row
     kind_here r in_banks here other =
         row_kind_at (open_row (bank_in r.place) history) r other ∙ ap (λ b. row_kind (open_row b history)) (bank_is ranks r bank in_banks here) ∙ ap row_kind (sym row_is)
 
@@ -181,17 +181,17 @@ withheld_test true k false legal withheld is = ap (λ w. k && (legal && not w)) 
 
 -- a row hit that goes withholds all else of its bank
 pub rows_withheld : (s : Config) (history : List IssuedCommand) (ranks : ℕ) (log : List Arrived) (accesses : Accesses) (bank : ℕ) (h : CandidatesOfBank) → All (IsInBanks ranks) (all_requests log)
-    → AreCandidates log bank h → h.row ≡ open_row (bank_at bank) history → is_some (hit_candidate accesses h) ≡ true → (cycle : ℕ) → rows_in s history log accesses bank cycle ≡ None
+    → AreCandidates log bank h → h.row ≡ open_row (bank_at bank) history → is_some (hit_candidate accesses h) ≡ true → (cycle : ℕ) → row_requests_in s history log accesses bank cycle ≡ None
 unfolding ready_row
 rows_withheld s history ranks log accesses bank h places first row_is some cycle =
     let cands = going accesses log in
-    same_among (λ r. eqb (bank_number r.place) bank && rows_now s history log accesses cycle r) (λ r. false) (IsInBanks ranks) log places
+    same_among (λ r. eqb (bank_number r.place) bank && row_requests_now s history log accesses cycle r) (λ r. false) (IsInBanks ranks) log places
     (λ r in_banks.
-    withheld_test (eqb (bank_number r.place) bank) (is_of accesses r) (is_hit history r) (is_legal s history cycle (needed history r)) (is_withheld history cands (needed history r))
+    withheld_test (eqb (bank_number r.place) bank) (is_of accesses r) (finds_row_open history r) (is_legal s history cycle (needed history r)) (is_withheld history cands (needed history r))
     (λ here.
     withheld_is history cands r
-    ∙ ap (λ b. has_hit history cands b && not (is_hit history r)) (bank_is ranks r bank in_banks here)
-    ∙ ap (λ b. b && not (is_hit history r)) (has_hit_is history ranks log accesses bank h places first row_is ∙ some)))
+    ∙ ap (λ b. has_hit history cands b && not (finds_row_open history r)) (bank_is ranks r bank in_banks here)
+    ∙ ap (λ b. b && not (finds_row_open history r)) (has_hit_is history ranks log accesses bank h places first row_is ∙ some)))
     ∙ sym (none_everywhere (λ r. false) log (λ r. refl))
 
 none_test : (b : Bool) (w : Access) (kr kw test : Bool) → ((kr && (b && is_access access.Read w)) || (kw && (b && is_access access.Write w))) ≡ false → (b && (includes (record { reads = kr; writes = kw }) w && test)) ≡ false
@@ -232,6 +232,6 @@ no_hits s history ranks log accesses bank h places first row_is none cycle =
     same_unless (λ r. eqb (bank_number r.place) bank && hits_now s history accesses cycle r) (λ r. false) (wants_row accesses bank h.row) (IsInBanks ranks) log
     (hit_candidate_is ranks log accesses bank h places first ∙ none) places
     (λ r in_banks off.
-    no_hit_test (eqb (bank_number r.place) bank) r.access accesses.reads accesses.writes (is_hit history r) (is_row r.place.row h.row) (is_legal s history cycle (needed history r))
+    no_hit_test (eqb (bank_number r.place) bank) r.access accesses.reads accesses.writes (finds_row_open history r) (is_row r.place.row h.row) (is_legal s history cycle (needed history r))
     (row_hit_is history ranks r bank h.row in_banks row_is) off)
     ∙ sym (none_everywhere (λ r. false) log (λ r. refl))

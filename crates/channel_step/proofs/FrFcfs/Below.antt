@@ -14,12 +14,12 @@ use Rattle.queue.specs.Log.{all_requests, waits_at}
 use Rattle.queue.specs.Columns.{bank_number}
 use Rattle.queue.specs.View.{QueueView}
 use Rattle.queue.specs.Candidates.{first_place}
-use Rattle.queue.specs.Moves.{earlier}
+use Rattle.sim_base.specs.Earlier.{earlier}
 use Rattle.queue.proofs.Searches.{none_everywhere}
 use Rattle.channel_step.specs.declared.fr_fcfs.offers.Offer.{Offer}
 use Rattle.channel_step.specs.FrFcfs.Requests.{candidates_of}
 use Rattle.channel_step.specs.declared.fr_fcfs.accesses.Accesses.{Accesses}
-use Rattle.channel_step.specs.FrFcfs.Offers.{going, hits_now, rows_now, IsAt, IsBest, IsFirstReady}
+use Rattle.channel_step.specs.FrFcfs.Offers.{going, hits_now, row_requests_now, IsAt, IsBest, IsFirstReady}
 use Rattle.channel_step.proofs.FrFcfs.Firsts.{same_among, either_among, find_going, first_waits}
 
 -- the first request of the banks below a number that passes a test
@@ -52,7 +52,7 @@ more_below k n t = elim (cases_eq k n) [
       | inr more ↦ absurd (apart (omega arith))
     ]
 
--- one bank more
+-- the first request of the banks below a number that passes a test, with one bank more
 pub place_more : (n : ℕ) (test : Request → Bool) (log : List Arrived)
     → place_below (n + 1) test log ≡ earlier (place_below n test log) (first_place (λ r. eqb (bank_number r.place) n && test r) log)
 place_more n test log =
@@ -69,7 +69,7 @@ pub ready_by_places : (s : Config) (history : List IssuedCommand) (log : List Ar
     → first_ready s history cycle (going accesses log)
     ≡ option_map (needed history)
     (or_else (option_and_then (slice_get (all_requests log)) (first_place (hits_now s history accesses cycle) log))
-    (option_and_then (slice_get (all_requests log)) (first_place (rows_now s history log accesses cycle) log)))
+    (option_and_then (slice_get (all_requests log)) (first_place (row_requests_now s history log accesses cycle) log)))
 unfolding first_ready
 ready_by_places s history log accesses cycle =
     λ i. option_map (needed history)
@@ -112,14 +112,14 @@ offer_waits log first second false place is = first_waits second log place is.1
 -- the offer that goes first of all is what the first request needs that is ready
 pub first_ready_is : (s : Config) (history : List IssuedCommand) (queue : QueueView) (accesses : Accesses) (now : ℕ) (o : Option Offer) → candidates_of s queue ≡ going accesses queue.log
     → IfSome o (λ x. x.place < length queue.log)
-    → IsBest now (λ cycle. first_place (hits_now s history accesses cycle) queue.log) (λ cycle. first_place (rows_now s history queue.log accesses cycle) queue.log) o
+    → IsBest now (λ cycle. first_place (hits_now s history accesses cycle) queue.log) (λ cycle. first_place (row_requests_now s history queue.log accesses cycle) queue.log) o
     → IsFirstReady s history queue now o
 first_ready_is s history queue accesses now None cands within best = λ cycle late.
     let none = best cycle late in
     let log = queue.log in
     ap (first_ready s history cycle) cands
     ∙ ready_by_places s history log accesses cycle
-    ∙ none_ready history (all_requests log) (first_place (hits_now s history accesses cycle) log) (first_place (rows_now s history log accesses cycle) log) none.0 none.1
+    ∙ none_ready history (all_requests log) (first_place (hits_now s history accesses cycle) log) (first_place (row_requests_now s history log accesses cycle) log) none.0 none.1
 first_ready_is s history queue accesses now (Some o) cands within best =
     let log = queue.log in
     record {
@@ -128,11 +128,11 @@ first_ready_is s history queue accesses now (Some o) cands within best =
           let none = best.none_before cycle late sooner in
           ap (first_ready s history cycle) cands
           ∙ ready_by_places s history log accesses cycle
-          ∙ none_ready history (all_requests log) (first_place (hits_now s history accesses cycle) log) (first_place (rows_now s history log accesses cycle) log) none.0 none.1;
+          ∙ none_ready history (all_requests log) (first_place (hits_now s history accesses cycle) log) (first_place (row_requests_now s history log accesses cycle) log) none.0 none.1;
       then_is =
           ap (first_ready s history o.cycle) cands
           ∙ ready_by_places s history log accesses o.cycle
-          ∙ ready_at history (all_requests log) o.hit (first_place (hits_now s history accesses o.cycle) log) (first_place (rows_now s history log accesses o.cycle) log) o.place
+          ∙ ready_at history (all_requests log) o.hit (first_place (hits_now s history accesses o.cycle) log) (first_place (row_requests_now s history log accesses o.cycle) log) o.place
           (omega (arith, length-map log (λ (a : Arrived). a.request), within)) best.then_is;
-      waits = offer_waits log (hits_now s history accesses o.cycle) (rows_now s history log accesses o.cycle) o.hit o.place best.then_is;
+      waits = offer_waits log (hits_now s history accesses o.cycle) (row_requests_now s history log accesses o.cycle) o.hit o.place best.then_is;
     }

@@ -8,7 +8,7 @@ use Rattle.queue.specs.declared.request_log.Arrived.{Arrived}
 use Rattle.queue.specs.Log.{all_requests}
 use Rattle.queue.specs.Columns.{bank_number}
 use Rattle.queue.specs.Candidates.{first_place}
-use Rattle.queue.specs.Moves.{earlier}
+use Rattle.sim_base.specs.Earlier.{earlier}
 use Rattle.queue.proofs.Searches.{none_everywhere}
 use Rattle.channel_step.proofs.FrFcfs.Firsts.{same_among, either_among}
 use Rattle.channel_step.proofs.FrFcfs.Below.{place_below, none_below, place_more, place_all}
@@ -40,7 +40,7 @@ beside_test left after bank k t was is others = elim (cases_eq k bank) [
       ∙ ap (λ b. (not (left k) && t) || (b && t)) (sym (ne_eqb k bank apart))
 ]
 
--- one bank less is left
+-- one bank less is left out: the first place is that of the others or of this bank
 pub beside_more : (left after : ℕ → Bool) (bank : ℕ) (test : Request → Bool) (log : List Arrived) → left bank ≡ true → after bank ≡ false
     → ((j : ℕ) → (j ≡ bank → ⊥) → after j ≡ left j)
     → place_beside after test log ≡ earlier (place_beside left test log) (first_place (λ r. eqb (bank_number r.place) bank && test r) log)
@@ -104,7 +104,7 @@ unfolding size
 size_same left after zero same = refl
 size_same left after (suc n) same = λ i. size_same left after n (λ k l. same k (omega arith)) i + cond (same n (omega arith) i) 1 0
 
--- one bank less is left
+-- one bank less is left out, so that fewer are
 pub size_less : (left after : ℕ → Bool) (bank n : ℕ) → bank < n → left bank ≡ true → after bank ≡ false → ((j : ℕ) → (j ≡ bank → ⊥) → after j ≡ left j) → size after n < size left n
 unfolding size
 size_less left after bank zero within was is others = absurd (omega arith)

@@ -2,7 +2,7 @@
 use Rattle.std.proofs.Common.{◌≡◌, ℕ, ◌+◌, ◌<◌, ◌≤◌, Bool, true, false, cond, ltb, leb, eqb, max, min, Option, Some, None, refl, sym, ap, subst, ◌∙◌, inl, inr, arith}
 use Rattle.std.proofs.lemmas.Bool.{cases_lt, cases_eq, eq-eqb, ne_eqb, ltb-true, ltb-false, lt-ltb, le-ltb, cond-true, cond-false, le-leb, lt-leb, false≢true}
 use Rattle.std.specs.Option.{option_map}
-use Rattle.queue.specs.Moves.{earlier}
+use Rattle.sim_base.specs.Earlier.{earlier}
 use Rattle.queue.proofs.BankCandidatesServed.{earlier_none}
 use Rattle.channel_step.specs.declared.fr_fcfs.offers.Offer.{Offer}
 use Rattle.channel_step.specs.FrFcfs.Offers.{goes_before, IsAt, IsBestOffer, IsBest}
@@ -37,7 +37,7 @@ pick false false false h r h2 r2 a b is_a is_b flag_is =
     let more : a ≤ b = ltb-false b a (sym flag_is) in
     let least : min a b ≡ a = omega arith in (none_both h h2 is_a.0 is_b.0, (λ i. earlier (is_a.1 i) (is_b.1 i)) ∙ ap Some least)
 
--- both places are none before the cycle of either
+-- both places of two offers are none before the cycle of either
 both_before : (now x y n : ℕ) (h r h2 r2 : ℕ → Option ℕ) → n ≤ x → n ≤ y → ((c : ℕ) → now ≤ c → c < x → (h c ≡ None) × (r c ≡ None))
     → ((c : ℕ) → now ≤ c → c < y → (h2 c ≡ None) × (r2 c ≡ None)) → (c : ℕ) → now ≤ c → c < n → (earlier (h c) (h2 c) ≡ None) × (earlier (r c) (r2 c) ≡ None)
 both_before now x y n h r h2 r2 in_x in_y none none_2 c from sooner =

@@ -14,8 +14,8 @@ use Rattle.sim_base.proofs.Lists.{filter-agree, filter-each}
 use Rattle.queue.specs.declared.request_log.Arrived.{Arrived}
 use Rattle.queue.specs.Log.{waiting_requests}
 use Rattle.queue.specs.View.{QueueView, is_draining}
-use Rattle.queue.specs.Candidates.{passes, entries, first_place}
-use Rattle.queue.proofs.Entries.{length-entries}
+use Rattle.queue.specs.Candidates.{passes, marked_requests, first_place}
+use Rattle.queue.proofs.MarkedRequests.{length-marked_requests}
 use Rattle.channel_step.specs.FrFcfs.Requests.{candidates_of}
 use Rattle.channel_step.specs.FrFcfs.Offers.{includes, is_of, only, favoured_access, other_access, all_accesses}
 use Rattle.channel_step.proofs.FrFcfs.Firsts.{some_filtered}
@@ -41,7 +41,7 @@ favour_none s queue requests is none =
     let long : length favoured ≤ 0 = subst (λ xs. length xs ≤ 0) is (omega arith) in
     sym (cond-false (ltb 0 s.write_high && ltb 0 (length favoured)) favoured eligible (and_right (ltb 0 s.write_high) (ltb 0 (length favoured)) (le-ltb 0 (length favoured) long)))
 
--- So do they where the channel never drains.
+-- All that are eligible go where the channel never drains.
 pub favour_never : (s : Config) (queue : QueueView) → s.write_high ≡ 0 → first_of_lines (waiting_requests queue.log) ≡ candidates_of s queue
 unfolding candidates favour
 favour_never s queue never =
@@ -115,4 +115,4 @@ bound p xs k is =
 -- the candidate of a bank stands within the log
 pub within : (test : Request → Bool) (log : List Arrived) (o : Option ℕ) → o ≡ first_place test log → IfSome o (λ k. k < length log)
 within test log None is = tt
-within test log (Some k) is = let inside = bound (passes test) (entries log) k (sym is) in omega (arith, length-entries log)
+within test log (Some k) is = let inside = bound (passes test) (marked_requests log) k (sym is) in omega (arith, length-marked_requests log)

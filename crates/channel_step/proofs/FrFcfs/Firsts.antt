@@ -14,9 +14,9 @@ use Rattle.queue.specs.Marks.{is_marked}
 use Rattle.queue.specs.Log.{waiting_requests, all_requests, waits_at, eligible_column, absent}
 use Rattle.queue.specs.Columns.{marked_items}
 use Rattle.queue.proofs.Eligible.{length-eligible, marked_waits}
-use Rattle.queue.specs.Candidates.{passes, entries, first_place}
-use Rattle.queue.specs.Moves.{earlier}
-use Rattle.queue.proofs.Entries.{length-entries}
+use Rattle.queue.specs.Candidates.{passes, marked_requests, first_place}
+use Rattle.sim_base.specs.Earlier.{earlier}
+use Rattle.queue.proofs.MarkedRequests.{length-marked_requests}
 use Rattle.queue.proofs.Positions.{position-cons, position-either, first_none}
 use Rattle.queue.proofs.Searches.{none_everywhere}
 use Rattle.queue.proofs.Firsts.{marked_eligible}
@@ -45,7 +45,7 @@ pub either_among : (p q t : Request → Bool) (P : Request → Type 0) (log : Li
     → first_place p log ≡ earlier (first_place q log) (first_place t log)
 either_among p q t P log all same =
     same_among p (λ r. q r || t r) P log all same
-    ∙ position-either (passes (λ r. q r || t r)) (passes q) (passes t) (entries log) (λ e. or_split (is_marked e.1) (q e.0) (t e.0))
+    ∙ position-either (passes (λ r. q r || t r)) (passes q) (passes t) (marked_requests log) (λ e. or_split (is_marked e.1) (q e.0) (t e.0))
 
 -- a test under a condition
 pub place_if : (b : Bool) (test : Request → Bool) (log : List Arrived) → first_place (λ r. b && test r) log ≡ cond b (first_place test log) None
@@ -144,8 +144,8 @@ some_filtered t log =
 -- what is found waits
 pub first_waits : (test : Request → Bool) (log : List Arrived) (place : ℕ) → first_place test log ≡ Some place → waits_at log place ≡ true
 first_waits test log place is =
-    let found = position-Some (passes test) (entries log) place (absent.request, 0) is in
-    let within : place < length log = omega (arith, found.0, length-entries log) in
+    let found = position-Some (passes test) (marked_requests log) place (absent.request, 0) is in
+    let within : place < length log = omega (arith, found.0, length-marked_requests log) in
     let there =
     get_or-zip (all_requests log) (eligible_column log) place (absent.request, 0) (omega (arith, within, length-map log (λ (a : Arrived). a.request))) (omega (arith, within, length-eligible log)) in
     let passed = sym (ap (passes test) there) ∙ found.1 in

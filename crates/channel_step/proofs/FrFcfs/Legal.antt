@@ -17,7 +17,7 @@ use Rattle.sim_base.specs.Rules.{is_legal, is_allowed, finds_its_banks, open_row
 use Rattle.sim_base.specs.Scheduling.{source_of, column_command_to, column_command, needed_at, needed, is_column_command, is_withheld, has_hit}
 use Rattle.sim_base.proofs.Lists.{eqb-swap}
 use Rattle.bank_ready.specs.Stands.{IsAllowedFrom}
-use Rattle.channel_step.specs.FrFcfs.Requests.{IsLegalFrom, is_hit}
+use Rattle.channel_step.specs.FrFcfs.Requests.{IsLegalFrom, finds_row_open}
 use Rattle.channel_step.proofs.FrFcfs.Booleans.{any_never}
 
 -- the column command of a request, if it is of this access
@@ -125,11 +125,11 @@ withheld_at history requests r (Some row) is =
 
 -- what a request needs is withheld where some row hit wants its bank, and it is none
 pub withheld_is : (history : List IssuedCommand) (requests : List Request) (r : Request)
-    → is_withheld history requests (needed history r) ≡ (has_hit history requests (bank_in r.place) && not (is_hit history r))
+    → is_withheld history requests (needed history r) ≡ (has_hit history requests (bank_in r.place) && not (finds_row_open history r))
 unfolding needed
 withheld_is history requests r = withheld_at history requests r (open_row (bank_in r.place) history) refl
 
-pub hit_is : (history : List IssuedCommand) (r : Request) → is_hit history r ≡ is_row r.place.row (open_row (bank_in r.place) history)
+pub hit_is : (history : List IssuedCommand) (r : Request) → finds_row_open history r ≡ is_row r.place.row (open_row (bank_in r.place) history)
 unfolding needed
 hit_is history r = hit_at (open_row (bank_in r.place) history) r
 

@@ -1,7 +1,7 @@
 -- The best offer so far.
 use Rattle.std.proofs.Common.{◌≡◌, ℕ, ◌<◌, ◌≤◌, Bool, true, false, cond, ltb, eqb, max, min, Option, Some, None, refl, sym, ap, subst, ◌∙◌, inl, inr, arith}
 use Rattle.std.proofs.lemmas.Bool.{cases_lt, cases_eq, eq-eqb, ne_eqb, lt-ltb, le-ltb, cond-true, cond-false}
-use Rattle.queue.specs.Moves.{earlier}
+use Rattle.sim_base.specs.Earlier.{earlier}
 use Rattle.queue.proofs.BankCandidatesServed.{earlier_none}
 use Rattle.channel_step.specs.declared.fr_fcfs.offers.Offer.{Offer}
 use Rattle.channel_step.specs.FrFcfs.Offers.{goes_before, no_offer, if_within, offer_from, IsAt, IsBestOffer, IsBest, IsBestSoFar}
@@ -28,14 +28,14 @@ before_none room o inside fits = elim (cases_eq o.cycle 18446744073709551615) [
       | inr more ↦ absurd (apart (omega arith))
     ]
 
--- an offer with a place among so many
+-- an offer with one of `room` places
 offer_within : (room : ℕ) (o : Offer) → o.place < room → if_within room o ≡ Some o
 offer_within room o inside = cond-true (ltb o.place room) (Some o) None (lt-ltb o.place room inside)
 
 offer_without : (room : ℕ) (o : Offer) → room ≤ o.place → if_within room o ≡ None
 offer_without room o outside = cond-false (ltb o.place room) (Some o) None (le-ltb o.place room outside)
 
--- the offer that is the best, with a place among so many
+-- the offer that is the best, with one of `room` places
 told : (room now : ℕ) (h r : ℕ → Option ℕ) (o : Offer) → o.place < room → IsBestOffer now h r o → IsBestSoFar room now h r o
 told room now h r o inside best = record {
   none = λ outside. absurd (omega arith);
@@ -100,7 +100,7 @@ hits_late room now floor hits rows late_hits o late fits none so_far = elim (cas
       absurd (omega arith)
 ]
 
--- nor do ACTs and PREs that are
+-- ACTs and PREs that are ready only after the best offer change nothing
 pub rows_late : (room now floor : ℕ) (hits rows late_rows : ℕ → Option ℕ) (o : Offer) → o.cycle < floor → floor ≤ 18446744073709551615 → ((c : ℕ) → c < floor → late_rows c ≡ None)
     → IsBestSoFar room now hits rows o → IsBestSoFar room now hits (λ c. earlier (rows c) (late_rows c)) o
 rows_late room now floor hits rows late_rows o late fits none so_far = elim (cases_lt o.place room) [
@@ -141,7 +141,7 @@ not_taken candidate now ready hit best late = record {
   none = λ is. refl;
 }
 
--- one that there is
+-- a candidate is taken into the best offer so far, where there is one
 pub taken : (candidate : Option ℕ) (now ready place : ℕ) (hit : Bool) (best after : Offer) → candidate ≡ Some place
     → after ≡ cond (goes_before (offer_from now ready hit place) best) (offer_from now ready hit place) best → IsTaken candidate now ready hit best after
 taken candidate now ready place hit best after is after_is = record {

@@ -15,20 +15,21 @@ use Rattle.sim_base.specs.declared.command.IssuedCommand.{IssuedCommand}
 use Rattle.sim_base.specs.declared.command.Kind.{Kind}
 use Rattle.sim_base.specs.declared.message.Request.{Request}
 use Rattle.sim_base.specs.declared.place.BankId.{BankId}
-use Rattle.sim_base.specs.Places.{bank_in, is_bank}
+use Rattle.sim_base.specs.Places.{bank_in, is_bank, bank_at}
 use Rattle.sim_base.specs.Rules.{is_legal, open_row, is_row, kind_of, has_open_bank}
 use Rattle.sim_base.specs.Scheduling.{needed, is_column_command, has_hit, is_withheld, is_row_hit, ready_hit, ready_row, or_else, first_ready, first_of_lines, asks_for_line, choice_between, lowest_due, refresh_command}
+use Rattle.sim_base.proofs.Lists.{cond-none}
 use Rattle.queue.specs.declared.request_log.Arrived.{Arrived}
 use Rattle.queue.specs.Marks.{is_marked}
 use Rattle.queue.specs.Log.{waiting_requests, all_requests}
 use Rattle.queue.specs.Columns.{bank_number, marked_items}
 use Rattle.queue.proofs.Eligible.{marks_after}
 use Rattle.queue.specs.View.{QueueView}
-use Rattle.queue.specs.Candidates.{bank_at, entries}
-use Rattle.queue.proofs.Entries.{entries_append}
+use Rattle.queue.specs.Candidates.{marked_requests}
+use Rattle.queue.proofs.MarkedRequests.{entries_append}
 use Rattle.channel_step.specs.FrFcfs.Arrivals.{ComesAfter, KeepsNext}
 use Rattle.channel_step.specs.FrFcfs.Choices.{choice_in}
-use Rattle.channel_step.specs.FrFcfs.Requests.{IsInBanks, is_hit, candidates_of}
+use Rattle.channel_step.specs.FrFcfs.Requests.{IsInBanks, finds_row_open, candidates_of}
 use Rattle.channel_step.specs.FrFcfs.Offers.{IsReadyFrom}
 use Rattle.queue.proofs.Firsts.{marked_eligible}
 use Rattle.channel_step.proofs.FrFcfs.Legal.{withheld_is, hit_is, same_bank}
@@ -45,7 +46,7 @@ items_each P rs ms all =
     let kept = λ (e : Request × ℕ). is_marked e.1 in
     All-map P (λ (e : Request × ℕ). e.0) (filter kept (zip rs ms)) (All-filter kept (λ (e : Request × ℕ). P e.0) (zip rs ms) (zip_each P rs ms all))
 
--- those of later requests that wait with no older one for the same line
+-- those of the later requests that wait with no older one for the same line
 abbrev later_lines : List Arrived → List Arrived → List Request
 later_lines older later = marked_items (all_requests later) (marks_after (λ p. asks_for_line p (waiting_requests older)) later)
 
@@ -60,23 +61,19 @@ lines_more older later =
     let rest = zip (all_requests later) (marks_after (λ p. asks_for_line p (waiting_requests older)) later) in
     sym (marked_eligible (older ++ later))
     ∙ ap (λ es. map item (filter kept es)) (entries_append older later)
-    ∙ ap (map item) (filter-append kept (entries older) rest)
-    ∙ map-append item (filter kept (entries older)) (filter kept rest)
+    ∙ ap (map item) (filter-append kept (marked_requests older) rest)
+    ∙ map-append item (filter kept (marked_requests older)) (filter kept rest)
     ∙ ap (λ xs. xs ++ later_lines older later) (marked_eligible older)
 
 none_found : {X : Type 0} (p : X → Bool) (xs : List X) → All (λ x. p x ≡ false) xs → find p xs ≡ None
 none_found p [] all = refl
 none_found p (x ∷ xs) all = ap (λ b. cond b (Some x) (find p xs)) (All-head (λ y. p y ≡ false) x xs all) ∙ none_found p xs (All-tail (λ y. p y ≡ false) x xs all)
 
-no_candidate : {X : Type 0} (b : Bool) (x : X) (rest : Option X) → cond b (Some x) rest ≡ None → (b ≡ false) × (rest ≡ None)
-no_candidate true x rest none = cc
-no_candidate false x rest none = (refl, none)
-
 -- what passes a stronger test passes the other
 narrower : {X : Type 0} (p q : X → Bool) (xs : List X) → ((x : X) → p x ≡ false → q x ≡ false) → find p xs ≡ None → find q xs ≡ None
 narrower p q [] less none = refl
 narrower p q (x ∷ xs) less none =
-    let parts = no_candidate (p x) x (find p xs) none in ap (λ b. cond b (Some x) (find q xs)) (less x parts.0) ∙ narrower p q xs less parts.1
+    let parts = cond-none (p x) x (find p xs) none in ap (λ b. cond b (Some x) (find q xs)) (less x parts.0) ∙ narrower p q xs less parts.1
 
 -- what is found passes
 passes_here : {X : Type 0} (p : X → Bool) (x y : X) (rest : Option X) (b : Bool) → p y ≡ b → (rest ≡ Some x → p x ≡ true) → cond b (Some y) rest ≡ Some x → p x ≡ true
@@ -91,8 +88,8 @@ some_passes p (y ∷ ys) x found = passes_here p x y (find p ys) (p y) refl (som
 late_hits : (s : Config) (history : List IssuedCommand) (cycle t : ℕ) (hit : Bool) (more : List Request) → t < cycle → All (ComesAfter s history cycle hit) more → find (ready_hit s history t) more ≡ None
 unfolding ready_hit
 late_hits s history cycle t hit more early all =
-    none_found (λ r. is_hit history r && is_legal s history t (needed history r)) more
-    (λ k d exists. ap (λ b. is_hit history (slice_index_or more k d) && b) ((all k d exists).late t early) ∙ and-false (is_hit history (slice_index_or more k d)))
+    none_found (λ r. finds_row_open history r && is_legal s history t (needed history r)) more
+    (λ k d exists. ap (λ b. finds_row_open history (slice_index_or more k d) && b) ((all k d exists).late t early) ∙ and-false (finds_row_open history (slice_index_or more k d)))
 
 no_row : (hit legal withheld : Bool) → legal ≡ false → ((not hit && legal) && not withheld) ≡ false
 no_row hit legal withheld off = ap (λ b. (not hit && b) && not withheld) off ∙ ap (λ b. b && not withheld) (and-false (not hit))
@@ -101,9 +98,9 @@ late_rows : (s : Config) (history : List IssuedCommand) (cycle t : ℕ) (hit : B
     → find (ready_row s history t requests) more ≡ None
 unfolding ready_row
 late_rows s history cycle t hit requests more early all =
-    none_found (λ r. (not (is_hit history r) && is_legal s history t (needed history r)) && not (is_withheld history requests (needed history r))) more
+    none_found (λ r. (not (finds_row_open history r) && is_legal s history t (needed history r)) && not (is_withheld history requests (needed history r))) more
     (λ k d exists.
-    no_row (is_hit history (slice_index_or more k d)) (is_legal s history t (needed history (slice_index_or more k d)))
+    no_row (finds_row_open history (slice_index_or more k d)) (is_legal s history t (needed history (slice_index_or more k d)))
     (is_withheld history requests (needed history (slice_index_or more k d))) ((all k d exists).late t early))
 
 less_ready : (hit legal a b w : Bool) → ((not hit && legal) && not (a && not hit)) ≡ false → w ≡ ((a || b) && not hit) → ((not hit && legal) && not w) ≡ false
@@ -120,7 +117,7 @@ fewer_rows : (s : Config) (history : List IssuedCommand) (t : ℕ) (requests mor
     → ready_row s history t (requests ++ more) r ≡ false
 unfolding ready_row
 fewer_rows s history t requests more r off =
-    let hit = is_hit history r in
+    let hit = finds_row_open history r in
     let legal = is_legal s history t (needed history r) in
     let bank = bank_in r.place in
     less_ready hit legal (has_hit history requests bank) (has_hit history more bank) (is_withheld history (requests ++ more) (needed history r))
@@ -133,10 +130,10 @@ both_none history None (Some r) none = cc
 both_none history (Some r) b none = cc
 
 -- nothing is ready before the cycle, as before
-quiet_still : (s : Config) (history : List IssuedCommand) (cycle t : ℕ) (hit : Bool) (requests more : List Request) → t < cycle → All (ComesAfter s history cycle hit) more
+none_issued_still : (s : Config) (history : List IssuedCommand) (cycle t : ℕ) (hit : Bool) (requests more : List Request) → t < cycle → All (ComesAfter s history cycle hit) more
     → first_ready s history t requests ≡ None → first_ready s history t (requests ++ more) ≡ None
 unfolding first_ready
-quiet_still s history cycle t hit requests more early all none =
+none_issued_still s history cycle t hit requests more early all none =
     let parts = both_none history (find (ready_hit s history t) requests) (find (ready_row s history t requests) requests) none in
     let longer = requests ++ more in
     let hits : find (ready_hit s history t) longer ≡ None =
@@ -161,12 +158,12 @@ no_hits_among s history cycle (r ∷ rs) all bank =
         ∙ (All-head (ComesAfter s history cycle false) r rs all).no_hit refl
     here false is = ap (λ b. b && is_row r.place.row (open_row bank history)) is
 
--- so nothing more is withheld
+-- further requests that need something else withhold no ACT or PRE
 rows_same : (s : Config) (history : List IssuedCommand) (cycle t : ℕ) (requests more : List Request) → All (ComesAfter s history cycle false) more
     → (r : Request) → ready_row s history t (requests ++ more) r ≡ ready_row s history t requests r
 unfolding ready_row
 rows_same s history cycle t requests more all r =
-    let hit = is_hit history r in
+    let hit = finds_row_open history r in
     let legal = is_legal s history t (needed history r) in
     let bank = bank_in r.place in
     ap (λ w. (not hit && legal) && not w)
@@ -178,13 +175,13 @@ rows_same s history cycle t requests more all r =
 none_hit : (s : Config) (history : List IssuedCommand) (cycle t : ℕ) (more : List Request) → All (ComesAfter s history cycle false) more → find (ready_hit s history t) more ≡ None
 unfolding ready_hit
 none_hit s history cycle t more all =
-    none_found (λ r. is_hit history r && is_legal s history t (needed history r)) more
+    none_found (λ r. finds_row_open history r && is_legal s history t (needed history r)) more
     (λ k d exists. ap (λ b. b && is_legal s history t (needed history (slice_index_or more k d))) ((all k d exists).no_hit refl))
 
-row_is_none : (s : Config) (history : List IssuedCommand) (t : ℕ) (requests : List Request) (r : Request) → ready_row s history t requests r ≡ true → is_hit history r ≡ false
+row_is_none : (s : Config) (history : List IssuedCommand) (t : ℕ) (requests : List Request) (r : Request) → ready_row s history t requests r ≡ true → finds_row_open history r ≡ false
 unfolding ready_row
 row_is_none s history t requests r ready =
-    let hit = is_hit history r in
+    let hit = finds_row_open history r in
     let legal = is_legal s history t (needed history r) in
     let outer = and_parts (not hit && legal) (not (is_withheld history requests (needed history r))) ready in
     not-true hit (and_parts (not hit) legal outer.0).0
@@ -227,11 +224,11 @@ unfolding choice_between
 between_chosen s history cycle requests more command None all chosen = chosen_still s history cycle requests more command all chosen
 between_chosen s history cycle requests more command (Some rank) all chosen = chosen
 
-between_quiet : (s : Config) (history : List IssuedCommand) (cycle t : ℕ) (hit : Bool) (requests more : List Request) (due : Option ℕ) → t < cycle → All (ComesAfter s history cycle hit) more
+between_none_issued : (s : Config) (history : List IssuedCommand) (cycle t : ℕ) (hit : Bool) (requests more : List Request) (due : Option ℕ) → t < cycle → All (ComesAfter s history cycle hit) more
     → choice_between s history t requests due ≡ None → choice_between s history t (requests ++ more) due ≡ None
 unfolding choice_between
-between_quiet s history cycle t hit requests more None early all none = quiet_still s history cycle t hit requests more early all none
-between_quiet s history cycle t hit requests more (Some rank) early all none = none
+between_none_issued s history cycle t hit requests more None early all none = none_issued_still s history cycle t hit requests more early all none
+between_none_issued s history cycle t hit requests more (Some rank) early all none = none
 
 -- What is next stays so with requests that come after it, where the channel never drains its writes.
 pub next_stays : (s : Config) (history : List IssuedCommand) (earlier later : QueueView) (new : List Arrived) (cycle : ℕ) (command : Command) → s.write_high ≡ 0
@@ -252,12 +249,12 @@ next_stays s history earlier later new cycle command never whole all =
           ∙ between_chosen s history cycle requests more command (lowest_due s history cycle) each chosen;
       none_before = λ t early none.
           ap (λ xs. choice_between s history t xs (lowest_due s history t)) same
-          ∙ between_quiet s history cycle t (is_column_command command) requests more (lowest_due s history t) early each none;
+          ∙ between_none_issued s history cycle t (is_column_command command) requests more (lowest_due s history t) early each none;
     }
 
 -- a request that comes after, by the first cycle in which what it needs may be issued
 pub after_ready : (s : Config) (history : List IssuedCommand) (ranks : ℕ) (r : Request) (k : Kind) (ready cycle : ℕ) (hit : Bool) → IsInBanks ranks r → IsReadyFrom s history (bank_at (bank_number r.place)) k ready
-    → kind_of (needed history r) ≡ k → cycle ≤ ready → (hit ≡ false → is_hit history r ≡ false) → ComesAfter s history cycle hit r
+    → kind_of (needed history r) ≡ k → cycle ≤ ready → (hit ≡ false → finds_row_open history r ≡ false) → ComesAfter s history cycle hit r
 after_ready s history ranks r k ready cycle hit places from kind_is late other =
     let bank = bank_number r.place in
     record {

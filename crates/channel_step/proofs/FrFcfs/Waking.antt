@@ -87,7 +87,7 @@ next_same commands rest needs now (Some next) same is = record {
   none_before = λ c from before. same c from ∙ is.none_before c from before;
 }
 
--- one rank more, below those that were looked at
+-- the refreshes of one rank more, below those that were looked at
 pub refreshes_more : (s : Config) (history : List IssuedCommand) (requests : List Request) (needs : Choice → Option Command) (rank ranks now : ℕ) (due_cycle : Option ℕ) (first next : Option (ℕ × Choice))
     → IsDueFrom (due s rank history) now due_cycle → rank < ranks
     → ((n : ℕ) → (rank + 1) + n ≡ ranks → IsNext (chosen_from s history requests (rank + 1) n) needs now first)
@@ -117,16 +117,16 @@ first_cycle commands now cycle command next = record {
 }
 
 -- where no refresh is due by the cycle of the first command of the requests, that goes first
-pub next_quiet : (s : Config) (history : List IssuedCommand) (requests : List Request) (counts : RefreshCounts) (now cycle : ℕ) (command : Option Command) → StandsFor counts s history
+pub next_none_issued : (s : Config) (history : List IssuedCommand) (requests : List Request) (counts : RefreshCounts) (now cycle : ℕ) (command : Option Command) → StandsFor counts s history
     → is_some (lowest_owed counts cycle) ≡ false → IsNextAt (λ c. first_ready s history c requests) now cycle command
     → IsNextAt (λ c. choice_between s history c requests (lowest_due s history c)) now cycle command
-next_quiet s history requests counts now cycle command stands none first = record {
+next_none_issued s history requests counts now cycle command stands none first = record {
   from_now = first.from_now;
-  then_is = quiet cycle (omega arith) ∙ first.then_is;
+  then_is = none_issued cycle (omega arith) ∙ first.then_is;
   there_is = first.there_is;
-  none_before = λ c from before. quiet c (omega arith) ∙ first.none_before c from before;
+  none_before = λ c from before. none_issued c (omega arith) ∙ first.none_before c from before;
 }
   where
-    quiet : (c : ℕ) → c ≤ cycle → choice_between s history c requests (lowest_due s history c) ≡ first_ready s history c requests
-    quiet c early =
+    none_issued : (c : ℕ) → c ≤ cycle → choice_between s history c requests (lowest_due s history c) ≡ first_ready s history c requests
+    none_issued c early =
         ap (choice_between s history c requests) (lowest_due_from_owed counts s history c stands ∙ none_owed_before counts c cycle early none) ∙ chosen_last s history requests 0 c

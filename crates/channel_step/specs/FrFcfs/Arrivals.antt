@@ -1,7 +1,7 @@
 -- When requests that arrive leave the choice as it is.
 --     ComesAfter s history cycle hit r      a request does not go before what is chosen for a cycle
 --     KeepsNext before after cycle command      the next command stays the same
---     StaysFound s history before queue found      what was found stays the next command with the requests that arrived since
+--     StaysFound s history before queue found      what was found stays the next command when requests have arrived
 use Rattle.std.specs.Prelude.{◌≡◌, ℕ, ◌<◌, Bool, false, List, Option, Some, None}
 use Rattle.sim_base.specs.declared.config.Config.{Config}
 use Rattle.sim_base.specs.declared.command.Command.{Command}
@@ -11,7 +11,7 @@ use Rattle.sim_base.specs.Rules.{is_legal}
 use Rattle.sim_base.specs.Scheduling.{needed}
 use Rattle.queue.specs.declared.request_log.Arrived.{Arrived}
 use Rattle.queue.specs.View.{QueueView}
-use Rattle.channel_step.specs.FrFcfs.Requests.{is_hit}
+use Rattle.channel_step.specs.FrFcfs.Requests.{finds_row_open}
 use Rattle.channel_step.specs.FrFcfs.Choices.{choice_in, command_of}
 use Rattle.channel_step.specs.declared.fr_fcfs.choice.Choice.{Choice}
 
@@ -19,7 +19,7 @@ use Rattle.channel_step.specs.declared.fr_fcfs.choice.Choice.{Choice}
 -- data.
 pub record ComesAfter (s : Config) (history : List IssuedCommand) (cycle : ℕ) (hit : Bool) (r : Request) : Type 0 where
   pub late : (t : ℕ) → t < cycle → is_legal s history t (needed history r) ≡ false
-  pub no_hit : hit ≡ false → is_hit history r ≡ false
+  pub no_hit : hit ≡ false → finds_row_open history r ≡ false
 
 -- If a command was chosen for a cycle before a change, it still is after it, and the earlier cycles with no command
 -- still have none.

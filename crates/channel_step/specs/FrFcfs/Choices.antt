@@ -1,11 +1,12 @@
 -- What a channel does next.
---     StandFor bank_candidates banks refresh queue groups s history      the parts of a channel stand for a configuration and its commands so far
---     ForParts parts fact      a fact of each configuration and its commands so far that the parts of a channel stand for
+--     StandFor bank_candidates banks refresh queue groups s history      the parts of a channel stand for its commands
+--     ForParts parts fact      a fact of each configuration and its commands that the parts of a channel stand for
 --     choice_in s history queue now      the command of a cycle
 --     command_of s history log choice      the command that is needed by what was chosen
 --     IsFor ranks log choice      what was chosen is a request that waits, or a rank that there is
---     HasPlace ranks log next      the same of what was chosen for a cycle, if anything was
+--     HasPlace ranks log next      what was chosen, if anything, is a request that waits, or a rank that there is
 --     HoldsBack s history rank due now rest commands      a rank that is to be refreshed goes first
+--     TakesRefresh parts rank due old new      what comes next takes in the refresh of a rank
 use Rattle.std.specs.Prelude.{◌≡◌, ℕ, ◌<◌, ◌≤◌, true, List, length, Option, Some, option_map, slice_get, IfSome, if◌then◌else◌}
 use Rattle.sim_base.specs.declared.config.Config.{Config}
 use Rattle.sim_base.specs.declared.command.Command.{Command}
@@ -20,7 +21,8 @@ use Rattle.queue.specs.Stands.{StandsFor as CandidatesStandFor}
 use Rattle.queue.specs.declared.request_log.Arrived.{Arrived}
 use Rattle.queue.specs.Log.{all_requests, waits_at}
 use Rattle.queue.specs.View.{QueueView}
-use Rattle.channel_step.specs.FrFcfs.Requests.{candidates_of}
+use Rattle.channel_step.specs.FrFcfs.Requests.{KnowsRows, candidates_of}
+use Rattle.channel_step.specs.FrFcfs.Cycles.{IsNext}
 use Rattle.channel_step.specs.declared.fr_fcfs.choice.ChannelParts.{ChannelParts}
 use Rattle.channel_step.specs.declared.fr_fcfs.choice.Choice.{Choice}
 use Rattle.channel_step.specs.declared.fr_fcfs.choice.Choice.TheVariants as chosen
@@ -38,9 +40,10 @@ pub record StandFor (bank_candidates : BankCandidates) (banks : Banks) (refresh 
 abbrev pub ForParts : ChannelParts → (Config → List IssuedCommand → Type 0) → Type 0
 ForParts parts fact =
     (s : Config) (history : List IssuedCommand)
-    → StandFor parts.bank_candidates.now parts.banks.now parts.refresh.now parts.queue.now parts.groups s history → fact s history
+    → StandFor parts.bank_candidates.now parts.banks.now parts.refresh.now parts.queue.now parts.groups s history
+    → fact s history
 
--- the command of a cycle, with this queue
+-- the command that a channel issues in a cycle with this queue, if it issues one
 abbrev pub choice_in : Config → List IssuedCommand → QueueView → ℕ → Option Command
 choice_in s history queue now = choice_between s history now (candidates_of s queue) (lowest_due s history now)
 
@@ -50,17 +53,35 @@ abbrev pub command_of : Config → List IssuedCommand → List Arrived → Choic
 command_of s history log (chosen.Request place) = option_map (needed history) (slice_get (all_requests log) place)
 command_of s history log (chosen.Refresh rank) = Some (refresh_command s history rank)
 
--- What was chosen is a request that waits at a place of a log, or one of so many ranks.
+-- What was chosen is a request that waits at a place of a log, or one of `ranks` ranks.
 abbrev pub IsFor : ℕ → List Arrived → Choice → Type 0
 IsFor ranks log (chosen.Request place) = (place < length log) × (waits_at log place ≡ true)
 IsFor ranks log (chosen.Refresh rank) = rank < ranks
 
--- What was chosen for a cycle, if anything was, is a request that waits at a place of a log, or one of so many ranks.
+-- What was chosen for a cycle, if anything was, is a request that waits at a place of a log, or one of `ranks` ranks.
 abbrev pub HasPlace : ℕ → List Arrived → Option (ℕ × Choice) → Type 0
 HasPlace ranks log next = IfSome next (λ n. IsFor ranks log n.1)
 
--- Where a refresh of a rank is due, the command of a cycle is what that needs, once it may be issued, and no other
--- one; in the other cycles from now on it is that of the rest.
-abbrev pub HoldsBack : Config → List IssuedCommand → ℕ → Option ℕ → ℕ → (ℕ → Option Command) → (ℕ → Option Command) → Type 0
+-- Where a refresh of a rank is due, the command of a cycle is what the refresh needs, once that may be issued, and no
+-- other one; in the other cycles from `now` on it is the command of the rest.
+abbrev pub HoldsBack : Config → List IssuedCommand → ℕ → Option ℕ → ℕ → (ℕ → Option Command) → (ℕ → Option Command)
+    → Type 0
 HoldsBack s history rank due now rest commands =
-    (c : ℕ) → now ≤ c → commands c ≡ (if is_due_at due c then if_legal s history c (refresh_command s history rank) else rest c)
+    (c : ℕ) → now ≤ c
+    → commands c ≡ (if is_due_at due c then if_legal s history c (refresh_command s history rank) else rest c)
+
+-- Where `old` says which command of the rest comes next, `new` says which command comes next once a refresh of a rank,
+-- which may be due from a cycle on, holds the rest back. This is so after each history that the banks of a channel
+-- stand for and whose open rows its candidates know, from each cycle that is not behind the one from which on the
+-- refresh is due.
+abbrev pub TakesRefresh : ChannelParts → ℕ → Option ℕ → Option (ℕ × Choice) → Option (ℕ × Choice) → Type 0
+TakesRefresh parts rank due old new =
+    (s : Config) (history : List IssuedCommand) (log : List Arrived)
+    (commands rest : ℕ → Option Command) (now : ℕ)
+    → BanksStandFor parts.banks.now s history
+    → KnowsRows parts.bank_candidates.now history
+    → s.groups ≡ parts.groups
+    → IfSome due (λ cycle. now ≤ cycle)
+    → HoldsBack s history rank due now rest commands
+    → IsNext rest (command_of s history log) now old
+    → IsNext commands (command_of s history log) now new

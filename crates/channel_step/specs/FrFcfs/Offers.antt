@@ -1,19 +1,20 @@
 -- What banks offer for the candidates of their queues.
---     includes accesses access, is_of accesses r      requests of an access go, and so does a request
+--     includes accesses access, is_of accesses r      requests of an access go; a request is of the accesses that go
 --     only access      requests of one access go alone
---     favoured_access draining, other_access access      the favoured access, and the one that is not this one
+--     favoured_access draining, other_access access      the favoured access, and the access that is not this one
 --     hits_in s history log accesses bank cycle      the place of the first ready row hit of a bank in a cycle
---     rows_in s history log accesses bank cycle      the place of its first request for which an ACT or a PRE may be issued then
---     rows_beside s history log accesses left cycle      the place of the first such request of all banks but those that are left
---     all_hits s history log accesses cycle, all_rows s history log accesses cycle      the same of all banks
+--     row_requests_in s history log accesses bank cycle      the place of a bank's first request for an ACT or a PRE
+--     row_requests_beside s history log accesses left cycle      the place of the first such request of all other banks
+--     all_hits s history log accesses cycle      the place of the first ready row hit of all banks in a cycle
+--     all_row_requests s history log accesses cycle      the place of the first such request of all banks
 --     no_place cycle, earlier_each a b cycle      no request, and the first of two, in each cycle
 --     oldest_of accesses bank_candidates bank      the first request of a bank
---     hit_of accesses bank_candidates bank      its first row hit
+--     hit_of accesses bank_candidates bank      the first row hit of a bank
 --     NeedsRow commands bank_candidates bank      a bank whose row these commands open or close
---     IsBest now hits rows offer      an offer is the first from now on
---     IsBestSoFar room now hits rows offer      the same, where one with a place after all others stands for none
+--     IsBest now hits rows offer      an offer is the first from `now` on
+--     IsBestSoFar room now hits rows offer      an offer is the first from `now` on, or stands for none
 --     TakesRows log now old new more, TakesHits log now old new more      the best offer so far takes in more requests
---     TakesRowsOf bank_candidates banks asked commands old new      it takes in what opens or closes the rows of some banks
+--     TakesRowsOf bank_candidates banks asked commands old new      the best offer takes in what some banks need
 --     better_of a b      the one of two offers that goes first
 --     IsFirstReady s history queue now offer      an offer is what the first ready request of the queue needs
 use Rattle.std.specs.Prelude.{◌≡◌, ℕ, ◌<◌, ◌≤◌, ◌==◌, nat_lt, max, Bool, true, false, not, ◌&&◌, ◌||◌, List, length, filter, Option, is_some, Some, None, option_map, slice_get, if◌then◌else◌}
@@ -37,7 +38,7 @@ use Rattle.queue.specs.declared.bank_candidates.entry.CandidatesOfBank.{Candidat
 use Rattle.queue.specs.declared.bank_candidates.all_banks.BankCandidates.{BankCandidates}
 use Rattle.queue.specs.declared.bank_candidates.sets.BankSet.{BankSet}
 use Rattle.queue.specs.Candidates.{first_place}
-use Rattle.queue.specs.Moves.{earlier}
+use Rattle.sim_base.specs.Earlier.{earlier}
 use Rattle.queue.specs.Sets.{is_in}
 use Rattle.queue.specs.Stands.{candidates_of_bank, row_of_bank}
 use Rattle.channel_step.specs.declared.fr_fcfs.accesses.Accesses.{Accesses}
@@ -64,11 +65,12 @@ abbrev pub favoured_access : Bool → Access
 favoured_access true = access.Write
 favoured_access false = access.Read
 
+-- the access that is not this one
 abbrev pub other_access : Access → Access
 other_access access.Read = access.Write
 other_access access.Write = access.Read
 
--- all requests go
+-- reads and writes both go
 abbrev pub all_accesses : Accesses
 all_accesses = record { reads = true; writes = true }
 
@@ -83,16 +85,21 @@ if_allowed candidate allowed = if allowed then candidate else None
 
 -- the first row hit of a bank, of the accesses that go
 abbrev pub hit_candidate : Accesses → CandidatesOfBank → Option ℕ
-hit_candidate accesses bank_candidates = earlier (if_allowed bank_candidates.reads.hit accesses.reads) (if_allowed bank_candidates.writes.hit accesses.writes)
+hit_candidate accesses bank_candidates =
+    earlier (if_allowed bank_candidates.reads.hit accesses.reads)
+    (if_allowed bank_candidates.writes.hit accesses.writes)
 
 -- the first request of a bank, of the accesses that go
 abbrev pub oldest_candidate : Accesses → CandidatesOfBank → Option ℕ
-oldest_candidate accesses bank_candidates = earlier (if_allowed bank_candidates.reads.oldest accesses.reads) (if_allowed bank_candidates.writes.oldest accesses.writes)
+oldest_candidate accesses bank_candidates =
+    earlier (if_allowed bank_candidates.reads.oldest accesses.reads)
+    (if_allowed bank_candidates.writes.oldest accesses.writes)
 
--- the first request of a bank by its number, and its first row hit, of the accesses that go
+-- the first request of the bank with a number, of the accesses that go
 abbrev pub oldest_of : Accesses → BankCandidates → ℕ → Option ℕ
 oldest_of accesses bank_candidates bank = oldest_candidate accesses (candidates_of_bank bank_candidates bank)
 
+-- the first row hit of the bank with a number, of the accesses that go
 abbrev pub hit_of : Accesses → BankCandidates → ℕ → Option ℕ
 hit_of accesses bank_candidates bank = hit_candidate accesses (candidates_of_bank bank_candidates bank)
 
@@ -105,16 +112,18 @@ abbrev pub hits_now : Config → List IssuedCommand → Accesses → ℕ → Req
 hits_now s history accesses cycle r = is_of accesses r && ready_hit s history cycle r
 
 -- a request for which an ACT or a PRE may be issued in a cycle
-abbrev pub rows_now : Config → List IssuedCommand → List Arrived → Accesses → ℕ → Request → Bool
-rows_now s history log accesses cycle r = is_of accesses r && ready_row s history cycle (going accesses log) r
+abbrev pub row_requests_now : Config → List IssuedCommand → List Arrived → Accesses → ℕ → Request → Bool
+row_requests_now s history log accesses cycle r = is_of accesses r && ready_row s history cycle (going accesses log) r
 
 -- the place of the first row hit of a bank that is ready in a cycle
 abbrev pub hits_in : Config → List IssuedCommand → List Arrived → Accesses → ℕ → ℕ → Option ℕ
-hits_in s history log accesses bank cycle = first_place (λ r. (bank_number r.place == bank) && hits_now s history accesses cycle r) log
+hits_in s history log accesses bank cycle =
+    first_place (λ r. (bank_number r.place == bank) && hits_now s history accesses cycle r) log
 
--- the place of its first request for which an ACT or a PRE may be issued then
-abbrev pub rows_in : Config → List IssuedCommand → List Arrived → Accesses → ℕ → ℕ → Option ℕ
-rows_in s history log accesses bank cycle = first_place (λ r. (bank_number r.place == bank) && rows_now s history log accesses cycle r) log
+-- the place of the first request of a bank for which an ACT or a PRE may be issued in a cycle
+abbrev pub row_requests_in : Config → List IssuedCommand → List Arrived → Accesses → ℕ → ℕ → Option ℕ
+row_requests_in s history log accesses bank cycle =
+    first_place (λ r. (bank_number r.place == bank) && row_requests_now s history log accesses cycle r) log
 
 -- the place of the first ready row hit of all banks in a cycle
 abbrev pub all_hits : Config → List IssuedCommand → List Arrived → Accesses → ℕ → Option ℕ
@@ -125,8 +134,8 @@ abbrev pub hits_if : Bool → Config → List IssuedCommand → List Arrived →
 hits_if goes s history log access = λ cycle. first_place (λ r. goes && hits_now s history (only access) cycle r) log
 
 -- the place of the first request of all banks for which an ACT or a PRE may be issued in a cycle
-abbrev pub all_rows : Config → List IssuedCommand → List Arrived → Accesses → ℕ → Option ℕ
-all_rows s history log accesses = λ cycle. first_place (rows_now s history log accesses cycle) log
+abbrev pub all_row_requests : Config → List IssuedCommand → List Arrived → Accesses → ℕ → Option ℕ
+all_row_requests s history log accesses = λ cycle. first_place (row_requests_now s history log accesses cycle) log
 
 -- no request in any cycle
 abbrev pub no_place : ℕ → Option ℕ
@@ -136,44 +145,48 @@ no_place = λ cycle. None
 abbrev pub earlier_each : (ℕ → Option ℕ) → (ℕ → Option ℕ) → ℕ → Option ℕ
 earlier_each a b = λ cycle. earlier (a cycle) (b cycle)
 
--- the place of the first such request of all banks but those that are left
-abbrev pub rows_beside : Config → List IssuedCommand → List Arrived → Accesses → (ℕ → Bool) → ℕ → Option ℕ
-rows_beside s history log accesses left cycle = first_place (λ r. not (left (bank_number r.place)) && rows_now s history log accesses cycle r) log
+-- the place of the first request for which an ACT or a PRE may be issued in a cycle, of all banks but those that are
+-- left out
+abbrev pub row_requests_beside : Config → List IssuedCommand → List Arrived → Accesses → (ℕ → Bool) → ℕ → Option ℕ
+row_requests_beside s history log accesses left cycle =
+    first_place (λ r. not (left (bank_number r.place)) && row_requests_now s history log accesses cycle r) log
 
--- a row hit is at this place, or there is none and the other is
+-- the first row hit is at this place, or there is no row hit and the first other ready request is there
 abbrev pub IsAt : Bool → Option ℕ → Option ℕ → ℕ → Type 0
 IsAt true hits rows place = hits ≡ Some place
 IsAt false hits rows place = (hits ≡ None) × (rows ≡ Some place)
 
--- An offer is the first from now on, where in each cycle the first ready row hit and the first other ready request have
--- these places: nothing is ready before its cycle.
+-- An offer is the first from `now` on, where in each cycle the first ready row hit and the first other ready request
+-- have these places: nothing is ready before its cycle.
 pub record IsBestOffer (now : ℕ) (hits rows : ℕ → Option ℕ) (o : Offer) : Type 0 where
   pub from_now : now ≤ o.cycle
   pub none_before : (cycle : ℕ) → now ≤ cycle → cycle < o.cycle → (hits cycle ≡ None) × (rows cycle ≡ None)
   pub then_is : IsAt o.hit (hits o.cycle) (rows o.cycle) o.place
 
--- An offer is the first from now on, by the places in each cycle, or there is none and nothing is ever ready.
+-- An offer is the first from `now` on, by the places in each cycle, or there is none and nothing is ever ready.
 abbrev pub IsBest : ℕ → (ℕ → Option ℕ) → (ℕ → Option ℕ) → Option Offer → Type 0
 IsBest now hits rows None = (cycle : ℕ) → now ≤ cycle → (hits cycle ≡ None) × (rows cycle ≡ None)
 IsBest now hits rows (Some o) = IsBestOffer now hits rows o
 
--- An offer goes before another for an earlier cycle, or in the same one as a row hit, or else for an older request.
+-- An offer goes before another if its cycle is earlier, or in the same cycle if it alone is a row hit, or else if its
+-- request is older.
 abbrev pub goes_before : Offer → Offer → Bool
-goes_before a b = if a.cycle == b.cycle then (if a.hit then (if b.hit then nat_lt a.place b.place else true) else (if b.hit then false else nat_lt a.place b.place)) else nat_lt a.cycle b.cycle
+goes_before a b =
+    if a.cycle == b.cycle then (if a.hit then (if b.hit then nat_lt a.place b.place else true) else (if b.hit then false else nat_lt a.place b.place)) else nat_lt a.cycle b.cycle
 
 -- the one of two offers that goes first
 abbrev pub better_of : Offer → Offer → Offer
 better_of a b = if goes_before a b then a else b
 
--- what stands for no offer, where there are this many places: all offers go before it
+-- what stands for no offer, where there are `room` places: all offers go before it
 abbrev pub no_offer : ℕ → Offer
 no_offer room = record { cycle = 18446744073709551615; hit = false; place = room }
 
--- an offer, if it has one of this many places
+-- an offer, if it has one of `room` places
 abbrev pub if_within : ℕ → Offer → Option Offer
 if_within room o = if nat_lt o.place room then Some o else None
 
--- An offer is the first from now on, or stands for none where there is none.
+-- An offer is the first from `now` on, or stands for none where there is none.
 pub record IsBestSoFar (room now : ℕ) (hits rows : ℕ → Option ℕ) (o : Offer) : Type 0 where
   pub none : room ≤ o.place → o ≡ no_offer room
   pub best : IsBest now hits rows (if_within room o)
@@ -182,23 +195,26 @@ pub record IsBestSoFar (room now : ℕ) (hits rows : ℕ → Option ℕ) (o : Of
 -- cycle has this place.
 abbrev pub TakesRows : List Arrived → ℕ → Offer → Offer → (ℕ → Option ℕ) → Type 0
 TakesRows log now old new more =
-    (hits rows : ℕ → Option ℕ) → IsBestSoFar (length log) now hits rows old → IsBestSoFar (length log) now hits (earlier_each rows more) new
+    (hits rows : ℕ → Option ℕ) → IsBestSoFar (length log) now hits rows old
+    → IsBestSoFar (length log) now hits (earlier_each rows more) new
 
 -- The best offer so far takes in further row hits, of which the first of each cycle has this place.
 abbrev pub TakesHits : List Arrived → ℕ → Offer → Offer → (ℕ → Option ℕ) → Type 0
 TakesHits log now old new more =
-    (hits rows : ℕ → Option ℕ) → IsBestSoFar (length log) now hits rows old → IsBestSoFar (length log) now (earlier_each hits more) rows new
+    (hits rows : ℕ → Option ℕ) → IsBestSoFar (length log) now hits rows old
+    → IsBestSoFar (length log) now (earlier_each hits more) rows new
 
 -- the offer of a request whose need may be issued from a cycle on
 abbrev pub offer_from : ℕ → ℕ → Bool → ℕ → Offer
 offer_from now ready hit place = record { cycle = max now ready; hit = hit; place = place }
 
--- from which cycle on commands of a kind may be issued to a bank, if they find it as they should
+-- from which cycle on commands of a kind may be issued to a bank, if they find the bank as they should
 abbrev pub IsReadyFrom : Config → List IssuedCommand → BankId → Kind → ℕ → Type 0
 IsReadyFrom s history bank kind ready =
-    (command : Command) → kind_of command ≡ kind → bank_of command ≡ Some bank → finds_its_banks s history command ≡ true → IsLegalFrom s history command ready
+    (command : Command) → kind_of command ≡ kind → bank_of command ≡ Some bank
+    → finds_its_banks s history command ≡ true → IsLegalFrom s history command ready
 
--- what closes a bank in which a row is open, and opens one in which none is
+-- the kind of the command that closes a bank in which a row is open, or opens one in which none is
 abbrev pub row_kind : Option ℕ → Kind
 row_kind (Some row) = kind.Pre
 row_kind None = kind.Act
@@ -210,30 +226,35 @@ pub record NeedsRow (commands : RowCommands) (bank_candidates : BankCandidates) 
   pub no_hit : is_some (hit_of commands.accesses bank_candidates bank) ≡ false
   pub kind_is : commands.kind ≡ row_kind (row_of_bank bank_candidates bank)
 
--- these banks and those that are left
-abbrev pub with_left : (ℕ → Bool) → (ℕ → Bool) → ℕ → Bool
-with_left asked left = λ bank. asked bank || left bank
+-- the banks that are asked for, and those that are left out
+abbrev pub with_skipped : (ℕ → Bool) → (ℕ → Bool) → ℕ → Bool
+with_skipped asked left = λ bank. asked bank || left bank
 
--- none of these banks is left
-abbrev pub AreNotLeft : (ℕ → Bool) → (ℕ → Bool) → Type 0
-AreNotLeft asked left = (bank : ℕ) → asked bank ≡ true → left bank ≡ false
+-- none of the banks that are asked for is left out
+abbrev pub AreNotSkipped : (ℕ → Bool) → (ℕ → Bool) → Type 0
+AreNotSkipped asked left = (bank : ℕ) → asked bank ≡ true → left bank ≡ false
 
--- The best offer so far, in which these banks were left, beside others, takes in what opens or closes their rows.
+-- The best offer so far, in which the banks `asked` were left out, beside others, takes in what opens or closes their
+-- rows.
 abbrev pub TakesRowsOf : BankCandidates → Banks → BankSet → RowCommands → Offer → Offer → Type 0
 TakesRowsOf bank_candidates banks asked commands old new =
     (s : Config) (history : List IssuedCommand) (log : List Arrived) (hits : ℕ → Option ℕ) (left : ℕ → Bool)
-    → StandForLog bank_candidates banks s history log → AreNotLeft (is_in asked) left
-    → IsBestSoFar (length log) commands.now hits (rows_beside s history log commands.accesses (with_left (is_in asked) left)) old
-    → IsBestSoFar (length log) commands.now hits (rows_beside s history log commands.accesses left) new
+    → StandForLog bank_candidates banks s history log → AreNotSkipped (is_in asked) left
+    → IsBestSoFar (length log) commands.now hits
+    (row_requests_beside s history log commands.accesses (with_skipped (is_in asked) left)) old
+    → IsBestSoFar (length log) commands.now hits (row_requests_beside s history log commands.accesses left) new
 
--- An offer is what the first ready request, from now on, needs. That request waits.
+-- An offer is what the first ready request, from `now` on, needs. That request waits.
 pub record IsReadyAt (s : Config) (history : List IssuedCommand) (queue : QueueView) (now : ℕ) (o : Offer) : Type 0 where
   pub from_now : now ≤ o.cycle
-  pub none_before : (cycle : ℕ) → now ≤ cycle → cycle < o.cycle → first_ready s history cycle (candidates_of s queue) ≡ None
-  pub then_is : first_ready s history o.cycle (candidates_of s queue) ≡ option_map (needed history) (slice_get (all_requests queue.log) o.place)
+  pub none_before : (cycle : ℕ) → now ≤ cycle → cycle < o.cycle
+      → first_ready s history cycle (candidates_of s queue) ≡ None
+  pub then_is : first_ready s history o.cycle (candidates_of s queue)
+      ≡ option_map (needed history) (slice_get (all_requests queue.log) o.place)
   pub waits : waits_at queue.log o.place ≡ true
 
--- An offer is what the first ready request, from now on, needs, or there is none and no request is ever ready.
+-- An offer is what the first ready request, from `now` on, needs, or there is none and no request is ever ready.
 abbrev pub IsFirstReady : Config → List IssuedCommand → QueueView → ℕ → Option Offer → Type 0
-IsFirstReady s history queue now None = (cycle : ℕ) → now ≤ cycle → first_ready s history cycle (candidates_of s queue) ≡ None
+IsFirstReady s history queue now None =
+    (cycle : ℕ) → now ≤ cycle → first_ready s history cycle (candidates_of s queue) ≡ None
 IsFirstReady s history queue now (Some o) = IsReadyAt s history queue now o

@@ -1,15 +1,16 @@
 -- What a request needs, and which requests may be served next.
 --     IsInBanks ranks r      a request asks for a bank that exists
---     AreInBanks ranks log      each request of a log does
+--     AreInBanks ranks log      each request of a log asks for a bank that exists
 --     IsOfBank bank_candidates r      a request asks for a bank that has candidates
 --     OfSameBanks bank_candidates banks      candidates and banks are of the same ranks
 --     KnowsRows bank_candidates history      candidates that know which rows are open
---     StandForLog bank_candidates banks s history log      they stand for a log after a list of commands
---     ForRequests banks bank_candidates queue fact      a fact of each configuration and history for which they stand
+--     StandForLog bank_candidates banks s history log      candidates and banks stand for a log after these commands
+--     ForLogs banks bank_candidates fact      a fact of each log and its commands for which banks and candidates stand
+--     ForRequests banks bank_candidates queue fact      a fact of all commands for which banks and candidates stand
 --     IsLegalFrom s history command cycle      from which cycle on a command may be issued
---     is_hit history r      the request waits for its data alone
+--     finds_row_open history r      a request waits for its data alone
 --     candidates_of s queue      the requests that may be served next
---     first_ready_in s history queue cycle      the command that the first ready one of these needs
+--     first_ready_in s history queue cycle      the command that the first ready request of a queue needs
 use Rattle.std.specs.Prelude.{◌≡◌, ℕ, ◌*◌, ◌<◌, ◌≤◌, ◌↔◌, Bool, IsTrue, List, Option, All}
 use Rattle.sim_base.specs.declared.config.Config.{Config}
 use Rattle.sim_base.specs.declared.command.Command.{Command}
@@ -24,22 +25,22 @@ use Rattle.bank_ready.specs.declared.banks.Banks.{Banks}
 use Rattle.bank_ready.specs.Stands.{rank_count, StandsFor as BanksStandFor}
 use Rattle.queue.specs.declared.bank_candidates.all_banks.BankCandidates.{BankCandidates}
 use Rattle.queue.specs.Candidates.{rows_after}
-use Rattle.queue.specs.Stands.{bank_count, IsAmong, StandsFor as CandidatesStandFor}
+use Rattle.queue.specs.Stands.{bank_count, IsBankOf, StandsFor as CandidatesStandFor}
 use Rattle.queue.specs.View.{QueueView, is_draining}
 
--- a request asks for a bank of this many ranks, each with at most four groups of four banks
+-- a request asks for a bank of `ranks` ranks, each with at most four groups of four banks
 pub record IsInBanks (ranks : ℕ) (r : Request) : Type 0 where
   pub rank : r.place.rank < ranks
   pub group : r.place.group < 4
   pub bank : r.place.bank < 4
 
--- each request of a log asks for a bank of this many ranks
+-- each request of a log asks for a bank of `ranks` ranks
 abbrev pub AreInBanks : ℕ → List Arrived → Type 0
 AreInBanks ranks log = All (IsInBanks ranks) (all_requests log)
 
 -- a request asks for a bank that has candidates
 abbrev pub IsOfBank : BankCandidates → Request → Type 0
-IsOfBank bank_candidates r = IsAmong bank_candidates (bank_in r.place)
+IsOfBank bank_candidates r = IsBankOf bank_candidates (bank_in r.place)
 
 -- candidates and banks are of the same ranks, of 16 banks each
 abbrev pub OfSameBanks : BankCandidates → Banks → Type 0
@@ -57,6 +58,12 @@ pub record StandForLog (bank_candidates : BankCandidates) (banks : Banks) (s : C
   pub candidates_stand : CandidatesStandFor bank_candidates log (rows_after history)
   pub in_banks : AreInBanks (rank_count banks) log
 
+-- a fact of each configuration, list of commands and log that banks and candidates stand for
+abbrev pub ForLogs : Banks → BankCandidates → (Config → List IssuedCommand → List Arrived → Type 0) → Type 0
+ForLogs banks bank_candidates fact =
+    (s : Config) (history : List IssuedCommand) (log : List Arrived)
+    → StandForLog bank_candidates banks s history log → fact s history log
+
 -- a fact of each configuration, with the queue's `high`, and each list of commands that banks and the candidates of a
 -- queue stand for
 abbrev pub ForRequests : Banks → BankCandidates → QueueView → (Config → List IssuedCommand → Type 0) → Type 0
@@ -69,8 +76,8 @@ abbrev pub IsLegalFrom : Config → List IssuedCommand → Command → ℕ → T
 IsLegalFrom s history command cycle = (now : ℕ) → (cycle ≤ now) ↔ IsTrue (is_legal s history now command)
 
 -- a request waits for nothing but its data
-abbrev pub is_hit : List IssuedCommand → Request → Bool
-is_hit history r = is_column_command (needed history r)
+abbrev pub finds_row_open : List IssuedCommand → Request → Bool
+finds_row_open history r = is_column_command (needed history r)
 
 -- the requests that may be served next
 abbrev pub candidates_of : Config → QueueView → List Request

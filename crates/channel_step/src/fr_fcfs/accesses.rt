@@ -17,7 +17,7 @@ pub(crate) struct Accesses {
     pub(crate) writes: bool,
 }
 
-/// Both go: the channel never drains.
+/// Requests to read and to write both go, where the channel never drains.
 pub(crate) const ALL_ACCESSES: Accesses = Accesses {
     reads: true,
     writes: true,
@@ -47,7 +47,7 @@ fn favoured_access(draining: bool) -> Access
     }
 }
 
-/// The other access: to write for to read, and to read for to write.
+/// The access that is not this one: Write for Read, and Read for Write.
 #[inline(always)]
 fn other_access(access: Access) -> Access
     ensures { result ≡ other_access access }

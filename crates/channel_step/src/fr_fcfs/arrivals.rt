@@ -13,7 +13,7 @@ ghost use Rattle.queue.specs.Log.{all_requests};
 ghost use Rattle.channel_step.specs.declared.fr_fcfs.choice.Choice.TheVariants as chosen;
 ghost use Rattle.channel_step.specs.FrFcfs.Arrivals.{ComesAfter, StaysFound};
 ghost use Rattle.channel_step.specs.FrFcfs.Choices.{command_of, IsFor};
-ghost use Rattle.channel_step.specs.FrFcfs.Requests.{IsInBanks, IsOfBank, AreInBanks, OfSameBanks, KnowsRows, ForRequests, is_hit};
+ghost use Rattle.channel_step.specs.FrFcfs.Requests.{IsInBanks, IsOfBank, AreInBanks, OfSameBanks, KnowsRows, ForRequests, finds_row_open};
 
 use crate::fr_fcfs::choice::Choice;
 use crate::fr_fcfs::offers::ready;
@@ -74,10 +74,10 @@ fn comes_after(
 
 /// Whether a request asks for the row that is open in its bank.
 #[inline(always)]
-fn is_hit(bank_candidates: &BankCandidates, request: &Request) -> bool
+fn finds_row_open(bank_candidates: &BankCandidates, request: &Request) -> bool
     requires { IsOfBank bank_candidates.now request.now }
     ensures { (history : List IssuedCommand)
-        → KnowsRows bank_candidates.now history → result ≡ is_hit history request.now }
+        → KnowsRows bank_candidates.now history → result ≡ finds_row_open history request.now }
 {
     match bank_candidates.open_row(request.place.bank_id()) {
         Some(row) => row == request.place.row,
@@ -95,7 +95,7 @@ fn needs_column_command(bank_candidates: &BankCandidates, log: &[Arrived], choic
         → command_of s history log.now choice ≡ Some command → result ≡ is_column_command command }
 {
     match choice {
-        Choice::Request(place) => is_hit(bank_candidates, &log[place as usize].request),
+        Choice::Request(place) => finds_row_open(bank_candidates, &log[place as usize].request),
         Choice::Refresh(_) => false,
     }
 }

@@ -1,14 +1,11 @@
 //! What needs the command of the next cycle, and the first cycle with one.
 
-ghost use Rattle.std.specs.Prelude.{◌≡◌, ◌<◌, ◌≤◌, ℕ, List, Option, IfSome};
-ghost use Rattle.sim_base.specs.declared.config.Config.{Config};
-ghost use Rattle.sim_base.specs.declared.command.Command.{Command};
-ghost use Rattle.sim_base.specs.declared.command.IssuedCommand.{IssuedCommand};
-ghost use Rattle.bank_ready.specs.Stands.{rank_count, StandsFor as BanksStandFor};
+ghost use Rattle.std.specs.Prelude.{◌<◌, ◌≤◌, List, Option};
+ghost use Rattle.bank_ready.specs.Stands.{rank_count};
 ghost use Rattle.queue.specs.declared.request_log.Arrived.{Arrived};
-ghost use Rattle.channel_step.specs.FrFcfs.Requests.{AreInBanks, OfSameBanks, KnowsRows, ForRequests, first_ready_in};
+ghost use Rattle.channel_step.specs.FrFcfs.Requests.{AreInBanks, OfSameBanks, ForRequests, first_ready_in};
 ghost use Rattle.channel_step.specs.FrFcfs.Cycles.{IsNext};
-ghost use Rattle.channel_step.specs.FrFcfs.Choices.{ForParts, choice_in, command_of, HasPlace, HoldsBack};
+ghost use Rattle.channel_step.specs.FrFcfs.Choices.{ForParts, choice_in, command_of, HasPlace, TakesRefresh};
 
 use crate::fr_fcfs::needs::refresh_ready;
 use crate::fr_fcfs::offers::first_offer;
@@ -72,15 +69,7 @@ fn with_refresh(
     requires rank { rank < rank_count parts.now.banks.now }
     requires banks { OfSameBanks parts.now.bank_candidates.now parts.now.banks.now }
     requires groups { parts.now.groups ≤ 4 }
-    ensures next { (s : Config) (history : List IssuedCommand) (log : List Arrived)
-        (commands rest : ℕ → Option Command) (now : ℕ)
-        → BanksStandFor parts.now.banks.now s history
-        → KnowsRows parts.now.bank_candidates.now history
-        → s.groups ≡ parts.now.groups
-        → IfSome due (λ cycle. now ≤ cycle)
-        → HoldsBack s history rank due now rest commands
-        → IsNext rest (command_of s history log) now next.old
-        → IsNext commands (command_of s history log) now next.new }
+    ensures next { TakesRefresh parts.now rank due next.old next.new }
     ensures place { (log : List Arrived)
         → HasPlace (rank_count parts.now.banks.now) log next.old
         → HasPlace (rank_count parts.now.banks.now) log next.new }

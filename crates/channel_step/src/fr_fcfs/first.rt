@@ -5,14 +5,13 @@ ghost use Rattle.sim_base.specs.declared.config.Config.{Config};
 ghost use Rattle.sim_base.specs.declared.command.IssuedCommand.{IssuedCommand};
 ghost use Rattle.bank_ready.specs.Words.{names_bank, is_column_kind};
 ghost use Rattle.bank_ready.specs.Stands.{rank_count, StandsFor as BanksStandFor};
-ghost use Rattle.queue.specs.declared.request_log.Arrived.{Arrived};
 ghost use Rattle.queue.specs.Candidates.{rows_after};
-ghost use Rattle.queue.specs.Moves.{earlier};
+ghost use Rattle.sim_base.specs.Earlier.{earlier};
 ghost use Rattle.queue.specs.Sets.{is_in};
 ghost use Rattle.queue.specs.Stands.{bank_count, StandsFor as CandidatesStandFor};
-ghost use Rattle.channel_step.specs.FrFcfs.Requests.{AreInBanks, OfSameBanks, StandForLog, candidates_of};
+ghost use Rattle.channel_step.specs.FrFcfs.Requests.{AreInBanks, OfSameBanks, ForLogs, candidates_of};
 ghost use Rattle.channel_step.specs.FrFcfs.Offers.{only, going, column_kind, if_allowed, oldest_of, hit_of, NeedsRow};
-ghost use Rattle.channel_step.specs.FrFcfs.Offers.{hits_in, all_hits, hits_if, rows_in, all_rows, no_place};
+ghost use Rattle.channel_step.specs.FrFcfs.Offers.{hits_in, all_hits, hits_if, row_requests_in, all_row_requests, no_place};
 ghost use Rattle.channel_step.specs.FrFcfs.Offers.{IsBestSoFar, TakesHits, TakesRows, TakesRowsOf, IsFirstReady};
 
 use crate::fr_fcfs::accesses::Accesses;
@@ -148,10 +147,9 @@ fn with_row(
     requires banks { bank < 16 * rank_count banks.now }
     requires needed { NeedsRow commands bank_candidates.now bank }
     requires names_bank { IsTrue (names_bank commands.kind) }
-    ensures { (s : Config) (history : List IssuedCommand) (log : List Arrived)
-        → StandForLog bank_candidates.now banks.now s history log
-        → TakesRows log commands.now best.old best.new
-        (rows_in s history log commands.accesses bank) }
+    ensures { ForLogs banks.now bank_candidates.now (λ s history log.
+        TakesRows log commands.now best.old best.new
+        (row_requests_in s history log commands.accesses bank)) }
 {
     let ready = ready(banks, bank, commands.kind);
     if best.cycle < ready {
@@ -173,10 +171,9 @@ fn with_hit(
 )
     requires bank_candidates { bank < bank_count bank_candidates.now }
     requires banks { bank < 16 * rank_count banks.now }
-    ensures { (s : Config) (history : List IssuedCommand) (log : List Arrived)
-        → StandForLog bank_candidates.now banks.now s history log
-        → TakesHits log commands.now best.old best.new
-        (hits_in s history log (only commands.access) bank) }
+    ensures { ForLogs banks.now bank_candidates.now (λ s history log.
+        TakesHits log commands.now best.old best.new
+        (hits_in s history log (only commands.access) bank)) }
 {
     let ready = ready(banks, bank, column_kind(commands.access));
     if best.cycle < ready {
@@ -188,7 +185,7 @@ fn with_hit(
 }
 
 /// Takes what opens or closes rows into the best offer so far, in some banks, which requests of the accesses that go
-/// ask for, but not for the open row. Those banks were left, beside others.
+/// ask for, but not for the open row. These banks were left out so far, beside others.
 #[inline(always)]
 fn with_rows_of(
     best: &mut Offer,
@@ -211,8 +208,9 @@ fn with_rows_of(
     }
 }
 
-/// Takes the ACTs of closed banks into the best offer so far, as `with_rows_of` does. They are left out where none may be
-/// issued by its cycle.
+/// Takes the ACTs of closed banks into the best offer so far. Requests of the accesses that go ask for these banks,
+/// which were left out so far, beside others. The ACTs are left out where none may be issued by the cycle of the best
+/// offer.
 #[inline(always)]
 fn with_acts(
     best: &mut Offer,
@@ -246,10 +244,9 @@ fn with_rows(
     now: Cycle,
 )
     requires { OfSameBanks bank_candidates.now banks.now }
-    ensures { (s : Config) (history : List IssuedCommand) (log : List Arrived) (hits : ℕ → Option ℕ)
-        → StandForLog bank_candidates.now banks.now s history log
+    ensures { ForLogs banks.now bank_candidates.now (λ s history log. (hits : ℕ → Option ℕ)
         → IsBestSoFar (length log) now hits no_place best.old
-        → IsBestSoFar (length log) now hits (all_rows s history log accesses) best.new }
+        → IsBestSoFar (length log) now hits (all_row_requests s history log accesses) best.new) }
 {
     let asked = banks_with_candidate(bank_candidates, accesses).minus(hit(
         bank_candidates,
@@ -280,10 +277,9 @@ fn with_all_hits(
     commands: ColumnCommands,
 )
     requires { OfSameBanks bank_candidates.now banks.now }
-    ensures { (s : Config) (history : List IssuedCommand) (log : List Arrived)
-        → StandForLog bank_candidates.now banks.now s history log
-        → TakesHits log commands.now best.old best.new
-        (all_hits s history log (only commands.access)) }
+    ensures { ForLogs banks.now bank_candidates.now (λ s history log.
+        TakesHits log commands.now best.old best.new
+        (all_hits s history log (only commands.access))) }
 {
     let mut rest = bank_candidates.hit(commands.access);
     while let Some(bank) = rest.first() {
@@ -293,7 +289,7 @@ fn with_all_hits(
 }
 
 /// Takes the row hits of one access into the best offer so far, if they go. They are left out where none may be issued
-/// by its cycle.
+/// by the cycle of the best offer.
 #[inline(always)]
 fn with_hits(
     best: &mut Offer,
@@ -303,10 +299,9 @@ fn with_hits(
     goes: bool,
 )
     requires { OfSameBanks bank_candidates.now banks.now }
-    ensures { (s : Config) (history : List IssuedCommand) (log : List Arrived)
-        → StandForLog bank_candidates.now banks.now s history log
-        → TakesHits log commands.now best.old best.new
-        (hits_if goes s history log commands.access) }
+    ensures { ForLogs banks.now bank_candidates.now (λ s history log.
+        TakesHits log commands.now best.old best.new
+        (hits_if goes s history log commands.access)) }
 {
     if !goes {
         return;
@@ -327,11 +322,10 @@ fn with_banks(
     now: Cycle,
 )
     requires { OfSameBanks bank_candidates.now banks.now }
-    ensures { (s : Config) (history : List IssuedCommand) (log : List Arrived)
-        → StandForLog bank_candidates.now banks.now s history log
-        → IsBestSoFar (length log) now no_place no_place best.old
+    ensures { ForLogs banks.now bank_candidates.now (λ s history log.
+        IsBestSoFar (length log) now no_place no_place best.old
         → IsBestSoFar (length log) now
-        (all_hits s history log accesses) (all_rows s history log accesses) best.new }
+        (all_hits s history log accesses) (all_row_requests s history log accesses) best.new) }
 {
     with_rows(best, bank_candidates, accesses, banks, now);
     let read = ColumnCommands {

@@ -5,7 +5,7 @@ ghost use Rattle.sim_base.specs.declared.config.Config.{Config};
 ghost use Rattle.sim_base.specs.declared.command.IssuedCommand.{IssuedCommand};
 ghost use Rattle.bank_ready.specs.Words.{names_bank};
 ghost use Rattle.bank_ready.specs.Stands.{rank_count, StandsFor as BanksStandFor};
-ghost use Rattle.queue.specs.Candidates.{bank_at};
+ghost use Rattle.sim_base.specs.Places.{bank_at};
 ghost use Rattle.channel_step.specs.FrFcfs.Requests.{AreInBanks, OfSameBanks, ForRequests};
 ghost use Rattle.channel_step.specs.FrFcfs.Offers.{goes_before, better_of, offer_from, IsReadyFrom, IsFirstReady};
 
@@ -20,16 +20,16 @@ use sim_base::message::{Access, Cycle};
 /// A request whose need may be issued from a cycle on.
 #[derive(Clone, Copy)]
 pub(crate) struct Offer {
-    /// The first cycle from now on in which what it needs may be issued.
+    /// The first cycle from now on in which what the request needs may be issued.
     pub(crate) cycle: Cycle,
-    /// Whether that moves its data.
+    /// Whether what the request needs is its column command, which moves its data.
     pub(crate) hit: bool,
-    /// Its place in the log.
+    /// The place of the request in the log.
     pub(crate) place: usize,
 }
 
-/// Whether an offer goes before another: it is for an earlier cycle, or in the same one as a row hit, or else for an
-/// older request.
+/// Whether an offer goes before another: its cycle is earlier, or in the same cycle it alone is a row hit, or else its
+/// request is older.
 #[inline(always)]
 fn goes_before(a: Offer, b: Offer) -> bool
     ensures { result ≡ goes_before a b }
@@ -43,8 +43,9 @@ fn goes_before(a: Offer, b: Offer) -> bool
     a.place < b.place
 }
 
-/// Makes the best offer so far that of a request whose need may be issued from a cycle on, if that goes before. Its
-/// fields are written one by one, and only then, so that nothing is copied for a bank that does not improve it.
+/// Makes the offer of a request, whose need may be issued from a cycle on, the best offer so far, if it goes before
+/// that. Its fields are written one by one, and only then, so that nothing is copied for a bank that does not improve
+/// it.
 #[inline(always)]
 pub(crate) fn improve(best: &mut Offer, ready: Cycle, hit: bool, place: usize, now: Cycle)
     ensures { best.new ≡ better_of (offer_from now ready hit place) best.old }
@@ -94,8 +95,8 @@ fn first_of_one_access(
     }
 }
 
-/// The offer that goes first of all banks, from now on. All requests go where the channel never drains, and
-/// otherwise those of one access; the search is compiled for each of the three.
+/// The offer that goes first of all banks, from now on. All requests go where the channel never drains, and otherwise
+/// the requests of one access; the search is compiled for each of the three.
 #[inline(always)]
 pub(crate) fn first_offer(
     queue: &Queue,

@@ -46,8 +46,10 @@ are_texts (item d ds) = is_some (as_str d) && are_texts ds
 -- each field occurs once in the order; only the rank may be left out
 abbrev pub each_once : List Field → Bool
 each_once order =
-    (count_by (is_field Channel) order == 1) && (count_by (is_field Column) order == 1) && nat_le (count_by (is_field Rank) order) 1
-    && (count_by (is_field Group) order == 1) && (count_by (is_field Bank) order == 1) && (count_by (is_field Row) order == 1)
+    (count_by (is_field Channel) order == 1) && (count_by (is_field Column) order == 1)
+    && nat_le (count_by (is_field Rank) order) 1
+    && (count_by (is_field Group) order == 1) && (count_by (is_field Bank) order == 1)
+    && (count_by (is_field Row) order == 1)
 
 -- the order of fields that the names give
 unfoldable pub order_of : Items → Result (List Field) Fault

@@ -5,7 +5,8 @@ use Rattle.sim_base.specs.declared.command.IssuedCommand.{IssuedCommand}
 use Rattle.sim_base.specs.declared.message.Message.{Message}
 use Rattle.sessions.specs.Memories.{Pasts, IsMemory, with_past, IsNextCommandAt, IsNextReplyAt, with_command_of, with_reply_of}
 use Rattle.sessions.specs.declared.memory_session.memory.MemorySession.{MemorySession}
-use Rattle.dramsim_c.specs.CInterface.Rows.{entry_in, reply_kind}
+use Rattle.dramsim_c.specs.CInterface.Rows.{reply_kind}
+use Rattle.sim_base.specs.Scheduling.{entry_in}
 use Rattle.dramsim_c.specs.declared.c_interface.rows.ReplyRow.{ReplyRow}
 use Rattle.dramsim_c.specs.CInterface.Memories.{with_command_at, with_reply_at}
 

@@ -8,6 +8,7 @@ use Rattle.sessions.specs.declared.channel_session.session.Session.{Session}
 use Rattle.sim_base.specs.Values.{Values, values_of}
 use Rattle.sim_base.specs.declared.config.Config.{Config}
 use Rattle.sim_base.specs.declared.fault.Fault.{Fault}
+use Rattle.dramsim_c.specs.CInterface.Owned.{Holds}
 use Rattle.dramsim_c.specs.CInterface.Channels.{IsNewSession, open_refusal}
 use Rattle.dramsim_c.specs.CInterface.Kept.{IsWellAt, IsThere, IsMemory, IsOpenAnswer, IsCallAnswer}
 use Rattle.dramsim_c.specs.declared.c_interface.fault.CallFault.{CallFault}
@@ -18,13 +19,9 @@ pub new-is-open : (text : List ℕ) (number : ℕ) (session : Session) → IsNew
 new-is-open text number session h = record { past = no_past h.config number; is_session = h.past }
 
 -- what is open has a value that is fit
-abbrev IsSome : {A : Type 0} → Option A → Type 0
-IsSome (Some value) = Unit {0}
-IsSome None = ⊥
-
 well-some : {A : Type 0} (IsFit : A → Type 0) (is_open : Bool) (value : A) → IsWellAt IsFit is_open (Some value) → IsFit value
 well-some IsFit true value h = h
-well-some IsFit false value h = absurd (subst IsSome h tt)
+well-some IsFit false value h = absurd (subst Holds h tt)
 
 pub well-open : {A : Type 0} (IsFit : A → Type 0) (is_open : Bool) (kept : Option A) (value : A) → Some value ≡ kept → IsWellAt IsFit is_open kept → IsFit value
 well-open IsFit is_open kept value is h = well-some IsFit is_open value (subst (IsWellAt IsFit is_open) (sym is) h)

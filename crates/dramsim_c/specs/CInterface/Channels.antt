@@ -35,7 +35,8 @@ ForOpen c fact = (session : Session) → c.handle.value ≡ Some session → fac
 
 -- this is so of its session, where it is open, and of each past that the session may have
 abbrev pub ForSession : KeptChannel → (Session → Past → Type 0) → Type 0
-ForSession c fact = (session : Session) (past : Past) → c.handle.value ≡ Some session → IsSession session past → fact session past
+ForSession c fact =
+    (session : Session) (past : Past) → c.handle.value ≡ Some session → IsSession session past → fact session past
 
 -- its session has this past
 abbrev pub HasPast : KeptChannel → Past → Type 0

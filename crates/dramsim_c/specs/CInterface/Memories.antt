@@ -52,7 +52,8 @@ ForOpen m fact = (memory : MemorySession) → m.handle.value ≡ Some memory →
 
 -- this is so of its memory, where it is open, and of the pasts that its channels may have
 abbrev pub ForMemory : KeptMemory → (MemorySession → Pasts → Type 0) → Type 0
-ForMemory m fact = (memory : MemorySession) (pasts : Pasts) → m.handle.value ≡ Some memory → IsMemory memory pasts → fact memory pasts
+ForMemory m fact =
+    (memory : MemorySession) (pasts : Pasts) → m.handle.value ≡ Some memory → IsMemory memory pasts → fact memory pasts
 
 -- it stands at this cycle
 abbrev pub StandsAt : KeptMemory → ℕ → Type 0
@@ -117,11 +118,13 @@ IsReplyRow s pasts now None = IsNextReply s.channels pasts now None
 
 -- the next command of a channel was taken
 abbrev pub with_command_at : Pasts → ℕ → ℕ → Pasts
-with_command_at pasts now number = with_past pasts number (with_command (pasts.past number) (next_command_of (pasts.past number) now))
+with_command_at pasts now number =
+    with_past pasts number (with_command (pasts.past number) (next_command_of (pasts.past number) now))
 
 -- the next reply of a channel was taken
 abbrev pub with_reply_at : Pasts → ℕ → ℕ → Pasts
-with_reply_at pasts now number = with_past pasts number (with_reply (pasts.past number) (next_reply_of (pasts.past number) now))
+with_reply_at pasts now number =
+    with_past pasts number (with_reply (pasts.past number) (next_reply_of (pasts.past number) now))
 
 -- what a call gave was taken from its channel, if it gave anything
 abbrev pub with_command_given : Pasts → ℕ → Option (ℕ × CommandRow) → Pasts

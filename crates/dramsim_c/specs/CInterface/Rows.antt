@@ -32,6 +32,7 @@ use Rattle.dramsim_c.specs.declared.c_interface.rows.PlaceRow.{PlaceRow}
 use Rattle.dramsim_c.specs.declared.c_interface.rows.ReplyRow.{ReplyRow}
 use Rattle.dramsim_c.specs.declared.c_interface.rows.RequestRow.{RequestRow}
 use Rattle.dramsim_c.specs.declared.c_interface.rows.StatsRow.{StatsRow}
+use Rattle.sim_base.specs.Scheduling.{entry_in}
 
 -- what a row asks for
 abbrev pub sent_access : Bool → Access
@@ -94,12 +95,6 @@ command_row issued =
       core = (source_or_0 (source_in issued.command)).core;
       kind = kind_number (kind_of issued.command);
     }
-
--- the entry that a message is about
-abbrev pub entry_in : Payload → ℕ
-entry_in (payload.Request request) = request.entry
-entry_in (payload.Reply entry) = entry
-entry_in (payload.Credit access entry) = entry
 
 -- 0 for the data of a Read, 1 for the credit of a Read, 2 for that of a Write
 abbrev pub reply_kind : Payload → ℕ

@@ -1,7 +1,7 @@
 //! What C hands in and gets back, row by row.
 
 ghost use Rattle.std.specs.Prelude.{◌≡◌};
-ghost use Rattle.dramsim_c.specs.CInterface.Rows.{sent_access, sent_request, kind_number, row_in, column_in, bank_or_0, source_or_0, command_row, entry_in, reply_kind, message_row, place_row, place_in, count_or_0, stats_row};
+ghost use Rattle.dramsim_c.specs.CInterface.Rows.{sent_access, sent_request, kind_number, row_in, column_in, bank_or_0, source_or_0, command_row, reply_kind, message_row, place_row, place_in, count_or_0, stats_row};
 
 use sessions::channel_session::requests::SentRequest;
 use sim_base::command::{Command, IssuedCommand, Kind, Source};
@@ -169,16 +169,6 @@ pub struct ReplyRow {
     pub kind: u8,
 }
 
-/// The entry that a message is about.
-fn entry_in(payload: Payload) -> u64
-    ensures { result ≡ entry_in payload }
-{
-    match payload {
-        Payload::Request(request) => request.entry,
-        Payload::Reply(entry) | Payload::Credit { entry, .. } => entry,
-    }
-}
-
 /// The number of what a message carries to a core.
 fn reply_kind(payload: Payload) -> u8
     ensures { result ≡ reply_kind payload }
@@ -203,7 +193,7 @@ impl ReplyRow {
     {
         ReplyRow {
             arrival: reply.arrival,
-            entry: entry_in(reply.payload),
+            entry: reply.payload.entry(),
             core,
             kind: reply_kind(reply.payload),
         }

@@ -8,7 +8,7 @@ use sim_base::key::{Accepts, KEYS, Key};
 /// The keys of an item of `link`.
 pub(crate) static ITEM_KEYS: [Key; 2] = [Key::Id, Key::Latency];
 
-/// The one of these keys that has a name.
+/// The key, of some keys, that has a name.
 pub(crate) fn key_named(keys: &[Key], name: &str) -> Option<Key>
     ensures { IfSome result (λ key. key_name key ≡ name.now) }
 {
@@ -20,7 +20,7 @@ pub(crate) fn key_named(keys: &[Key], name: &str) -> Option<Key>
     None
 }
 
-/// Whether a name is that of one of these keys.
+/// Whether a name is that of one of some keys.
 pub(crate) fn is_known(keys: &[Key], name: &str) -> bool {
     key_named(keys, name).is_some()
 }

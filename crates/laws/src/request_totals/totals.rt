@@ -10,6 +10,7 @@ ghost use Rattle.laws.specs.Totals.{CoreAddsUp, ChannelAddsUp};
 pub fn requests_add_up()
     ensures cores { (s : Config) (traces : List (List Entry)) (n core : ℕ) → core < s.cores
         → CoreAddsUp s traces n core }
-    ensures channels { (s : Config) (traces : List (List Entry)) (n channel : ℕ) → channel < s.channels
+    ensures channels { (s : Config) (traces : List (List Entry)) (n channel : ℕ)
+        → channel < s.channels
         → ChannelAddsUp s traces n channel }
 {}

@@ -9,10 +9,10 @@ pub struct BankCounts {
     pub acts: u64,
     pub reads: u64,
     pub writes: u64,
-    /// Its PREs, and the PREAs of its rank.
+    /// PREs of the bank, and PREAs of its rank.
     pub precharges: u64,
-    /// Its PREs: each was issued for a request that needs another row than the open one.
+    /// PREs of the bank: each was issued for a request that needs another row than the open one.
     pub conflicts: u64,
-    /// Its RDs and WRs for whose request it had no ACT.
+    /// RDs and WRs of the bank for whose request it had no ACT.
     pub hits: u64,
 }

@@ -3,7 +3,7 @@
 ghost use Rattle.std.specs.Prelude.{◌≡◌, ◌<◌, ◌^◌, IfOk};
 ghost use Rattle.sim_base.specs.Counts.{issued_of_kind};
 ghost use Rattle.sim_base.specs.Rules.{is_kind, kind_of};
-ghost use Rattle.measures.specs.Banks.{is_of_channel, of_channel, names_bank, of_bank, is_of_rank, of_rank, bank_at, is_used, used_banks};
+ghost use Rattle.measures.specs.Banks.{is_of_channel, of_channel, names_bank, of_bank, is_of_rank, of_rank, is_used, used_banks};
 
 use command_table::list::CommandList;
 use sim_base::command::{IssuedCommand, Kind};
@@ -105,16 +105,6 @@ pub(crate) fn count_of_kind(kind: Kind, commands: &[IssuedCommand]) -> u64
         .count() as u64
 }
 
-fn bank_at(place: u32) -> BankId
-    ensures { result ≡ bank_at place }
-{
-    BankId {
-        rank: place / 16,
-        group: place / 4 % 4,
-        bank: place % 4,
-    }
-}
-
 #[tactic(auto, unfolding(crate::specs::Banks::is_used))]
 fn is_used(commands: &[IssuedCommand], bank: BankId) -> bool
     ensures { result ≡ is_used commands.now bank }
@@ -131,7 +121,7 @@ pub(crate) fn used_banks(
     ensures { IfOk result (λ banks. banks.items ≡ used_banks commands.now) }
 {
     (0..MOST_BANKS)
-        .map(bank_at)
+        .map(BankId::with_number)
         .filter(move |bank| is_used(commands, *bank))
         .collect(alloc)
 }

@@ -1,7 +1,8 @@
 //! What is counted of requests, and stands in the statistics of a run too.
 
 ghost use Rattle.std.specs.Prelude.{◌≡◌};
-ghost use Rattle.measures.specs.Tally.{replies, latency, reads, writes, hits, part, told};
+ghost use Rattle.measures.specs.Tally.{replies, reads, writes, hits, part, told};
+ghost use Rattle.request_table.specs.Requests.{reply_latency};
 
 use request_table::times::RequestTimes;
 use sim_base::message::Access;
@@ -31,8 +32,8 @@ fn replies(request: &RequestTimes) -> u64
     }
 }
 
-fn latency(request: &RequestTimes) -> u64
-    ensures { result ≡ latency request.now }
+fn reply_latency(request: &RequestTimes) -> u64
+    ensures { result ≡ reply_latency request.now }
 {
     match request.replied {
         Some(cycle) => cycle.saturating_sub(request.issued),
@@ -71,7 +72,7 @@ pub(crate) fn part(tally: Tally, request: &RequestTimes) -> u64
     let (core, channel) = (request.core as usize, request.channel as usize);
     match tally {
         Tally::Replies(unit) if core == unit => replies(request),
-        Tally::ReadLatency(unit) if core == unit => latency(request),
+        Tally::ReadLatency(unit) if core == unit => reply_latency(request),
         Tally::Reads(unit) if channel == unit => reads(request),
         Tally::Writes(unit) if channel == unit => writes(request),
         Tally::Hits(unit) if channel == unit => hits(request),

@@ -38,7 +38,7 @@ fn is_of(class: Class, channel: ChannelId, request: &RequestTimes) -> bool
     request.channel == channel && is_in_class(class, request)
 }
 
-// How long a request waited if it is one of these, and else 0.
+// How long a request waited if it is of a class and of a channel, and else 0.
 fn waited_in(class: Class, channel: ChannelId, request: &RequestTimes) -> u64
     ensures { result ≡ waited_in class channel request.now }
 {
@@ -49,7 +49,7 @@ fn waited_in(class: Class, channel: ChannelId, request: &RequestTimes) -> u64
     }
 }
 
-// How many requests are of these.
+// How many requests are of a class and of a channel.
 fn count(class: Class, channel: ChannelId, requests: &[RequestTimes]) -> u64
     ensures { result ≡ counted class channel requests.now }
 {
@@ -59,7 +59,7 @@ fn count(class: Class, channel: ChannelId, requests: &[RequestTimes]) -> u64
         .count() as u64
 }
 
-// How long these waited, in all.
+// How long the requests of a class and of a channel waited, in all.
 #[tactic(auto, using(std::proofs::lemmas::List::Sums::sum_by_more))]
 fn sum(class: Class, channel: ChannelId, requests: &[RequestTimes]) -> u128
     ensures { result ≡ waited class channel requests.now }

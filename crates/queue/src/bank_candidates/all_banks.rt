@@ -3,7 +3,7 @@
 ghost use Rattle.std.specs.Prelude.{◌≡◌, ℕ, ◌*◌, ◌≤◌, length, replicate, slice_index_or, None, is_some, IfOk};
 ghost use Rattle.queue.specs.Sets.{is_in};
 
-use crate::bank_candidates::entry::{AccessCandidates, access_number, is_open, number_of};
+use crate::bank_candidates::entry::{AccessCandidates, access_number, is_open};
 use crate::bank_candidates::places::{Departure, Places};
 use crate::bank_candidates::sets::BankSet;
 use crate::request_log::RequestLog;
@@ -37,19 +37,19 @@ pub struct BankCandidates {
 }
 
 impl BankCandidates {
-    ghost use Rattle.std.specs.Prelude.{ℕ, ◌≡◌, ◌<◌, ◌≤◌, ◌-◌, ◌^◌, ◌++◌, ◌∷◌, not, true, [], List, length, take, drop, All, Option, None, Some, is_some, IfOk, IfSome};
+    ghost use Rattle.std.specs.Prelude.{ℕ, ◌≡◌, ◌<◌, ◌≤◌, ◌-◌, ◌^◌, not, true, [], List, length, take, drop, All, Option, None, Some, is_some, IfOk, IfSome};
     ghost use Rattle.sim_base.specs.Access.{is_access};
     ghost use Rattle.sim_base.specs.Rules.{open_row};
-    ghost use Rattle.sim_base.specs.Scheduling.{asks_for_line};
     ghost use Rattle.sim_base.specs.declared.command.IssuedCommand.{IssuedCommand};
     ghost use Rattle.queue.specs.declared.request_log.Arrived.{Arrived};
-    ghost use Rattle.queue.specs.Log.{waiting, waiting_requests};
+    ghost use Rattle.queue.specs.Log.{waiting};
     ghost use Rattle.queue.specs.Columns.{bank_number};
-    ghost use Rattle.queue.specs.Candidates.{number_of, first_place, bank_asked_at, rows_after};
+    ghost use Rattle.queue.specs.Candidates.{first_place, bank_asked_at, rows_after};
+    ghost use Rattle.sim_base.specs.Places.{number_of_bank};
     ghost use Rattle.queue.specs.Served.{IsServed};
     ghost use Rattle.queue.specs.Sets.{is_in};
     ghost use Rattle.queue.specs.Stands.{bank_count, candidates_to, oldest_of_bank, row_of_bank};
-    ghost use Rattle.queue.specs.Stands.{StandsFor, StandsUpTo, with_row, closed_in, IsAmong};
+    ghost use Rattle.queue.specs.Stands.{StandsFor, StandsUpTo, TakesInArrival, with_row, closed_in, IsBankOf};
 
     /// The candidates of an empty log, for `banks` banks, which are all closed. Only this call allocates memory.
     pub fn with_room(alloc: Global, banks: usize) -> Result<Self, AllocError>
@@ -96,11 +96,11 @@ impl BankCandidates {
     /// The row that is open in a bank, if one is.
     #[inline(always)]
     pub fn open_row(&self, bank: BankId) -> Option<u32>
-        requires { IsAmong self.now bank }
+        requires { IsBankOf self.now bank }
         ensures { (log : List Arrived) (history : List IssuedCommand)
             → StandsFor self.now log (rows_after history) → result ≡ open_row bank history }
     {
-        self.rows[number_of(bank)]
+        self.rows[bank.number()]
     }
 
     /// The banks for which a request to write, or to read, may be served.
@@ -139,10 +139,7 @@ impl BankCandidates {
         requires bank { bank_number request.now.place < bank_count self.old }
         requires short { place < 2 ^ 16 - 1 }
         ensures banks { bank_count self.new ≡ bank_count self.old }
-        ensures stands { (older : List Arrived) (a : Arrived) (open_rows : ℕ → Option ℕ)
-            → place ≡ length older → request.now ≡ a.request → a.waits ≡ true
-            → eligible ≡ not (asks_for_line a.request.place (waiting_requests older))
-            → StandsFor self.old older open_rows → StandsFor self.new (older ++ a ∷ []) open_rows }
+        ensures stands { TakesInArrival self.old self.new request.now place eligible }
     {
         let bank = bank_number(request.place);
         let number = access_number(bank, request.access);
@@ -195,7 +192,7 @@ impl BankCandidates {
         self.places.leave(log, departure, self.rows[bank]);
     }
 
-    /// Takes note of a request that may be served now that another one has been.
+    /// Takes note of a request that may be served now that another one has been served.
     #[inline(always)]
     fn unblock(&mut self, next: usize, log: &RequestLog)
         requires next { next < length log.now.log }
@@ -211,7 +208,7 @@ impl BankCandidates {
         self.places.unblock(bank, request.access, next, hit);
     }
 
-    /// Takes note of a request that was served, and of the one that may be served since then, if there is one.
+    /// Takes note of a request that was served, and of the request that may be served since then, if there is one.
     #[inline(always)]
     pub fn on_service(&mut self, place: usize, unblocked: Option<usize>, log: &RequestLog)
         requires place { place < length log.now.log }
@@ -246,14 +243,14 @@ impl BankCandidates {
     /// Takes note of a row that has been opened in a bank.
     #[inline(always)]
     pub fn opened(&mut self, bank: BankId, row: u32, log: &RequestLog)
-        requires { number_of bank < bank_count self.old }
+        requires { number_of_bank bank < bank_count self.old }
         ensures banks { bank_count self.new ≡ bank_count self.old }
         ensures stands { (open_rows : ℕ → Option ℕ)
             → StandsFor self.old log.now.log open_rows
-            → StandsFor self.new log.now.log (with_row (number_of bank) (Some row) open_rows) }
+            → StandsFor self.new log.now.log (with_row (number_of_bank bank) (Some row) open_rows) }
     {
         prove!(log.len() < 65_535);
-        let number = number_of(bank);
+        let number = bank.number();
         self.rows[number] = Some(row);
         self.open_banks = self.open_banks.with(number);
         self.places.open(number, Access::Read, row, log);
@@ -277,13 +274,13 @@ impl BankCandidates {
     /// Takes note of a bank that has been closed.
     #[inline(always)]
     pub fn closed(&mut self, bank: BankId)
-        requires { number_of bank < bank_count self.old }
+        requires { number_of_bank bank < bank_count self.old }
         ensures banks { bank_count self.new ≡ bank_count self.old }
         ensures stands { (log : List Arrived) (open_rows : ℕ → Option ℕ)
             → StandsFor self.old log open_rows
-            → StandsFor self.new log (with_row (number_of bank) None open_rows) }
+            → StandsFor self.new log (with_row (number_of_bank bank) None open_rows) }
     {
-        self.close(number_of(bank));
+        self.close(bank.number());
     }
 
     /// Takes note of a rank whose banks have all been closed.

@@ -2,18 +2,17 @@
 
 ghost use Rattle.std.specs.Prelude.{◌≡◌, ◌<◌};
 ghost use Rattle.sim_base.specs.Rules.{is_row};
-ghost use Rattle.queue.specs.Candidates.{number_of, access_number};
+ghost use Rattle.queue.specs.Candidates.{access_number};
 
 use crate::request_log::words::write_bit;
 use sim_base::message::Access;
-use sim_base::place::BankId;
 
 /// The first requests of a bank that may be served, to read or to write: their places in the log.
 #[derive(Clone, Copy)]
 pub struct AccessCandidates {
-    /// The first one.
+    /// The first request that may be served.
     pub oldest: Option<usize>,
-    /// The first one that asks for the row that is open in the bank.
+    /// The first request that may be served and asks for the row that is open in the bank.
     pub hit: Option<usize>,
 }
 
@@ -25,20 +24,13 @@ pub struct CandidatesOfBank {
     pub writes: AccessCandidates,
 }
 
-/// The number of a bank and an access: twice that of the bank, plus one for a write.
+/// The number of a bank and an access: twice the number of the bank, plus one for a write.
 #[inline(always)]
 pub(crate) fn access_number(bank: usize, access: Access) -> usize
     requires { bank < 64 }
     ensures { result ≡ access_number bank access }
 {
     bank * 2 + write_bit(access)
-}
-
-/// The number of a bank.
-pub(crate) fn number_of(bank: BankId) -> usize
-    ensures { result ≡ number_of bank }
-{
-    (bank.rank as usize * 4 + bank.group as usize) * 4 + bank.bank as usize
 }
 
 /// Whether a row is the open one.

@@ -1,8 +1,8 @@
 //! The places of the candidates of all banks.
 
 ghost use Rattle.std.specs.Prelude.{◌≡◌, ◌≢◌, ◌^◌, ◌-◌, ◌<◌, ◌≤◌, true, false, length, Some, is_some};
-ghost use Rattle.queue.specs.Moves.{earlier};
-ghost use Rattle.queue.specs.Places.{candidate_of, word_of, IsShort, column, Agree};
+ghost use Rattle.sim_base.specs.Earlier.{earlier};
+ghost use Rattle.queue.specs.Places.{candidate_of, word_of, IsShort, set_number, Agree};
 
 use crate::bank_candidates::entry::AccessCandidates;
 use crate::bank_candidates::search::{candidates_from, first_from, first_hit};
@@ -16,10 +16,10 @@ use std::alloc::{AllocError, Global};
 /// first of these that asks for the open row.
 #[derive(Drop)]
 pub(crate) struct Places {
-    /// Four words per bank: the oldest and the first hit of its reads, and of its writes. Each is one more than a
-    /// place, and 0 where there is none.
+    /// Four words per bank: the oldest and the first hit of its reads, and of its writes. Each word is one more than a
+    /// place, or 0 where there is none.
     words: Vec<u16>,
-    /// For each of the four, the banks whose word is not 0.
+    /// For each of the four words of a bank, the banks whose word is not 0.
     sets: [BankSet; 4],
     ghost few: { length words.items ≤ 256 },
     ghost four: { length sets ≡ 4 },
@@ -87,7 +87,7 @@ fn earlier_of(candidate: Option<usize>, place: usize) -> Option<usize>
 /// Which word of a bank, and which set.
 #[inline(always)]
 fn column(access: Access, hit: bool) -> usize
-    ensures value { result ≡ column access hit }
+    ensures value { result ≡ set_number access hit }
     ensures few { result < 4 }
 {
     2 * write_bit(access) + usize::from(hit)
@@ -105,20 +105,19 @@ pub(crate) struct Departure {
     pub(crate) place: usize,
     pub(crate) bank: usize,
     pub(crate) access: Access,
-    /// Whether it is known that no other one waits.
+    /// Whether it is known that no other request of the bank and the access waits.
     pub(crate) empty: bool,
 }
 
 impl Places {
-    ghost use Rattle.std.specs.Prelude.{ℕ, ◌≡◌, ◌≢◌, ◌+◌, ◌*◌, ◌<◌, ◌≤◌, ◌^◌, ◌-◌, true, false, not, length, Option, Some, is_some, IfOk, List};
-    ghost use Rattle.queue.specs.declared.request_log.Arrived.{Arrived};
+    ghost use Rattle.std.specs.Prelude.{ℕ, ◌≡◌, ◌≢◌, ◌+◌, ◌*◌, ◌<◌, ◌≤◌, ◌^◌, ◌-◌, true, false, not, length, Option, Some, is_some, IfOk};
     ghost use Rattle.queue.specs.Sets.{is_in};
-    ghost use Rattle.queue.specs.Candidates.{AreFirst, NoneWaits};
+    ghost use Rattle.queue.specs.Candidates.{AreFirst};
     ghost use Rattle.queue.specs.Moves.{IsFirstFrom};
     ghost use Rattle.queue.specs.Changes.{HasBank, candidate_at, candidates_at, first_at, HasNoCandidate};
     ghost use Rattle.queue.specs.Changes.{SameRoom, SameCandidate, SameOthers, SameOtherBanks};
-    ghost use Rattle.queue.specs.Changes.{HasJoined, HasTakenIn, IsClosed};
-    ghost use Rattle.queue.specs.Served.{IsServed, AreFirstWithout, candidate_for, candidates_for, wants_like};
+    ghost use Rattle.queue.specs.Changes.{HasNewest, HasTakenIn, IsClosed};
+    ghost use Rattle.queue.specs.Served.{HasDeparted, candidate_for, wants_like};
 
     /// The places of the candidates of an empty log.
     pub(crate) fn with_room(alloc: Global, banks: usize) -> Result<Self, AllocError>
@@ -217,7 +216,7 @@ impl Places {
         requires bank { HasBank self.old bank }
         requires short { place < 2 ^ 16 - 1 }
         ensures room { SameRoom self.old self.new }
-        ensures joined { HasJoined self.old self.new bank access place hit }
+        ensures joined { HasNewest self.old self.new bank access place hit }
         ensures others { SameOthers self.old self.new bank access }
     {
         if self.candidate(bank, access, false).is_none() {
@@ -303,13 +302,7 @@ impl Places {
         requires place { departure.place < length log.now.log }
         requires log { length log.now.log < 2 ^ 16 - 1 }
         ensures room { SameRoom self.old self.new }
-        ensures own { (earlier : List Arrived) (unblocked : Option ℕ)
-            → IsServed earlier departure.place unblocked log.now.log
-            → (departure.empty ≡ true → NoneWaits log.now.log departure.bank departure.access)
-            → AreFirst earlier departure.bank departure.access row
-            (candidates_for self.old departure)
-            → AreFirstWithout departure log.now.log row unblocked
-            (candidates_for self.new departure) }
+        ensures own { HasDeparted self.old self.new log.now.log departure row }
         ensures others { SameOthers self.old self.new departure.bank departure.access }
     {
         let Departure {

@@ -2,7 +2,7 @@
 
 ghost use Rattle.std.specs.Prelude.{◌≡◌, ◌-◌, ◌<◌, ◌^◌, false, length, Some, IfSome};
 ghost use Rattle.queue.specs.Candidates.{asks, wants, AreFirst, NonePasses};
-ghost use Rattle.queue.specs.Moves.{IsFirstFrom, IsFirstHit, NoneBefore};
+ghost use Rattle.queue.specs.Moves.{IsFirstFrom, IsFirstHit, NonePassesBefore};
 ghost use Rattle.queue.specs.Places.{IsShort};
 
 use crate::bank_candidates::entry::AccessCandidates;
@@ -24,7 +24,7 @@ fn is_wanted(request: &Request, bank: usize, access: Access, row: Option<u32>) -
 }
 
 /// Whether some request that waits may be of a bank and an access, and ask for a row if one is given: false only where
-/// none is and does.
+/// no request that waits is and does.
 #[inline(always)]
 fn may_be_wanted(log: &RequestLog, bank: usize, access: Access, row: Option<u32>) -> bool
     ensures { result ≡ false → NonePasses (wants bank access row) log.now.log }
@@ -67,7 +67,8 @@ pub(crate) fn first_from(
     None
 }
 
-/// The first such request that asks for a row, where the first of them all is known: that one, or a later one.
+/// The first request of a bank, to write or to read, that may be served and asks for a row. `oldest` is the first one
+/// that may be served, whatever row it asks for: the result is this one or a later one.
 pub(crate) fn first_hit(
     log: &RequestLog,
     oldest: usize,
@@ -86,8 +87,8 @@ pub(crate) fn first_hit(
     first_from(log, oldest + 1, bank, access, Some(row))
 }
 
-/// The first such request that asks for the open row, if one is open, where the first of them all is known, if there is
-/// one.
+/// The first request of a bank, to write or to read, that may be served and asks for the open row, if one is open.
+/// `oldest` is the first one that may be served, whatever row it asks for, if there is one.
 pub(crate) fn first_open_hit(
     log: &RequestLog,
     oldest: Option<usize>,
@@ -115,7 +116,7 @@ pub(crate) fn candidates_from(
     row: Option<u32>,
 ) -> AccessCandidates
     requires { length log.now.log < 2 ^ 16 - 1 }
-    ensures first { NoneBefore (asks bank access) log.now.log from
+    ensures first { NonePassesBefore (asks bank access) log.now.log from
         → AreFirst log.now.log bank access row result }
     ensures oldest { IsShort result.oldest }
     ensures hit { IsShort result.hit }

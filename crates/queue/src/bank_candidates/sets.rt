@@ -18,7 +18,7 @@ impl BankSet {
         BankSet { bits: 0 }
     }
 
-    /// These banks and one more.
+    /// The banks of this set and one more.
     #[inline(always)]
     pub fn with(self, bank: usize) -> Self
         requires { bank < 64 }
@@ -30,7 +30,7 @@ impl BankSet {
         }
     }
 
-    /// These banks except one.
+    /// The banks of this set except one.
     #[inline(always)]
     pub fn without(self, bank: usize) -> Self
         requires { bank < 64 }
@@ -42,7 +42,7 @@ impl BankSet {
         }
     }
 
-    /// These banks except the lowest.
+    /// The banks of this set except the lowest.
     #[inline(always)]
     pub fn without_first(self) -> Self
         ensures same { (bank : ℕ) → IsLowest self bank → is_in result bank ≡ false }
@@ -54,7 +54,7 @@ impl BankSet {
         }
     }
 
-    /// These banks and those.
+    /// The banks of either set.
     #[inline(always)]
     pub fn union(self, others: BankSet) -> Self
         ensures { (k : ℕ) → is_in result k ≡ (is_in self k || is_in others k) }
@@ -64,7 +64,7 @@ impl BankSet {
         }
     }
 
-    /// These banks except those.
+    /// The banks of this set that are not in the other.
     #[inline(always)]
     pub fn minus(self, others: BankSet) -> Self
         ensures { (k : ℕ) → is_in result k ≡ (is_in self k && not (is_in others k)) }

@@ -20,8 +20,8 @@ pub(crate) fn is_for(place: Place, arrived: Arrived) -> bool
     arrived.waits && arrived.request.place.is_line(place)
 }
 
-/// The place of the first request from a place on that waits for a line, of those that may be served, or else of those
-/// that may not. Their tags are searched for, which most other requests do not have.
+/// The place of the first request from a place on that waits for a line, of the requests that may be served, or else of
+/// those that may not. The search is for their tags, which most other requests do not have.
 #[inline(never)]
 pub(crate) fn next_for_line(
     eligible: bool,
@@ -50,10 +50,10 @@ pub(crate) fn next_for_line(
     None
 }
 
-/// From so many requests on there are fewer counters for each.
+/// From this number of requests on there are fewer counters for each.
 const MANY: usize = 4_096;
 
-/// How many counters there are at least for so many requests: 16 for each, or 4 where they are many, since few queues
+/// How many counters there are at least for `room` requests: 16 for each, or 4 where `room` is large, since few queues
 /// are ever nearly full.
 fn wanted_for(room: usize) -> usize
     ensures { result < 2 ^ 30 }

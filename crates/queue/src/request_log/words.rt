@@ -1,14 +1,15 @@
 //! The words of a request beside the log.
 
 ghost use Rattle.std.specs.Prelude.{◌≡◌, ◌<◌, ◌≤◌, ◌^◌};
-ghost use Rattle.queue.specs.Marks.{mark, write_bit};
+ghost use Rattle.queue.specs.Marks.{write_bit};
+ghost use Rattle.sim_base.specs.Counts.{one_if};
 ghost use Rattle.queue.specs.Columns.{bank_number, tag_word, line_counter, row_counter};
 
 use sim_base::message::Access;
 use sim_base::place::Place;
 
 /// The tag of a request that was served: no request that may be served has it.
-pub(crate) const LEFT: u8 = 127;
+pub(crate) const SERVED: u8 = 127;
 
 /// The number of the bank of a place, whose row has 32 bits.
 #[inline(always)]
@@ -23,7 +24,7 @@ pub fn bank_number(place: Place) -> usize
 /// The word that says whether a test holds.
 #[inline(always)]
 fn mark(test: bool) -> u64
-    ensures { result ≡ mark test }
+    ensures { result ≡ one_if test }
 {
     if test { 1 } else { 0 }
 }
@@ -62,8 +63,8 @@ pub(crate) fn line_counter(place: Place, mask: usize) -> usize
     (line.wrapping_mul(11_400_714_819_323_198_485) >> 32) as usize & mask
 }
 
-/// One of the counters up to `mask`, the same for all requests for a row of a bank, to write or to read: those to write
-/// have the counter behind that of those to read.
+/// One of the counters up to `mask`, the same for all requests for a row of a bank, to write or to read: the requests
+/// to write have the counter behind the one of the requests to read.
 #[tactic(auto, unfolding(crate::specs::Columns::row_counter))]
 #[inline(always)]
 pub(crate) fn row_counter(bank: usize, access: Access, row: u32, mask: usize) -> usize

@@ -24,7 +24,7 @@ use Rattle.sim_base.specs.declared.trace.Entry.{Entry}
 use Rattle.sim_base.proofs.Each.{Each-append, IfSome-find}
 use Rattle.sim_base.proofs.Ordered.{Each-weaker}
 use Rattle.sim_base.proofs.Served.{or_else-each, candidates-each}
-use Rattle.sim_base.proofs.Spans.{length-run, step_of_channel-next}
+use Rattle.sim_base.proofs.Spans.{length_run, step_of_channel-next}
 use Rattle.sim_base.proofs.Accesses.{column_both}
 use Rattle.address_map.proofs.Peeled.{place_of-in_range}
 use Rattle.laws.specs.Commands.{channel_steps_of}
@@ -138,7 +138,7 @@ commands-of s traces short zero l = tt
 commands-of s traces short (suc n) l =
     let history = run s traces n in
     let row = next_step s traces history in
-    let long = length-run s traces n in
+    let long = length_run s traces n in
     subst (Each (RowIsOf s)) (sym (commands-more history row))
     (Each-append (RowIsOf s) (commands history) (rows_from (length history) 0 row.commands) (commands-of s traces short n (omega arith))
     (rows-of s (length history) 0 row.commands (omega arith) (next-of s traces n short)))

@@ -15,9 +15,9 @@ use Rattle.sim_base.specs.Counts.{queue_length, queue_lengths, queued_max}
 use Rattle.sim_base.specs.Final.{credits_left, queue_left}
 use Rattle.sim_base.specs.History.{below, issued_at, issued_commands, inbox, trace_of, steps_of_core}
 use Rattle.sim_base.specs.Machine.{run}
-use Rattle.sim_base.specs.Scheduling.{refreshes}
+use Rattle.sim_base.specs.Scheduling.{refreshes, queue_room}
 use Rattle.sim_base.specs.Windows.{held, credit_cap, is_credit_on}
-use Rattle.sim_base.proofs.Spans.{length-run}
+use Rattle.sim_base.proofs.Spans.{length_run}
 use Rattle.sim_base.specs.declared.message.Access.{Access}
 use Rattle.sim_base.specs.declared.message.Access.TheVariants as access
 use Rattle.sim_base.proofs.Lists.{count-cons}
@@ -29,7 +29,7 @@ use Rattle.statistics.specs.declared.tables.Tables.{Tables}
 use Rattle.statistics.specs.declared.channels.ChannelStats.{ChannelStats}
 use Rattle.statistics.specs.declared.final_state.Credits.{Credits}
 use Rattle.laws.specs.Commands.{channel_steps_of}
-use Rattle.laws.specs.Credits.{requests_sent}
+use Rattle.laws.specs.Credits.{requests_sent_count}
 use Rattle.laws.specs.DataBus.{has_data_in}
 use Rattle.laws.proofs.Bounded.{queued_requests-bound, queues_are_bounded}
 use Rattle.laws.proofs.Burst.{data_bus_is_shared}
@@ -37,13 +37,13 @@ use Rattle.laws.proofs.Conserved.{credits_come_back_once}
 use Rattle.laws.proofs.Counting.{bit_le}
 use Rattle.laws.proofs.Legal.{length-channel_steps_of}
 use Rattle.laws.proofs.Spent.{credits_are_never_overspent}
-use Rattle.laws.proofs.Tabled.{rows_on-commands}
+use Rattle.laws.proofs.Tabled.{commands_on-commands}
 use Rattle.laws.proofs.Timely.{refreshes_are_in_time}
-use Rattle.run_tables.specs.TableLaws.Outcomes.{OwnsDataBus, refreshes_until, IsRefreshed, most_queued, HasBoundedQueues, HoldsFewCredits, KeepsCreditsUntil}
+use Rattle.run_tables.specs.TableLaws.Outcomes.{OwnsDataBus, refreshes_until, IsRefreshed, HasBoundedQueues, HoldsFewCredits, KeepsCreditsUntil}
 
 pub owns_data_bus : (s : Config) (traces : List (List Entry)) (n : ℕ) → OwnsDataBus s traces n
 owns_data_bus s traces n channel cycle l =
-    subst (λ t. count_by (has_data_in s.timing cycle) t ≤ 1) (sym (rows_on-commands s traces channel l n)) (data_bus_is_shared s traces n channel cycle l)
+    subst (λ t. count_by (has_data_in s.timing cycle) t ≤ 1) (sym (commands_on-commands s traces channel l n)) (data_bus_is_shared s traces n channel cycle l)
 
 -- each REF of the first cycles stands in one of them
 refreshed-early : (k rank cycle i n : ℕ) (past_steps : List (Option Command)) → i + n ≤ cycle + 1
@@ -70,14 +70,14 @@ history-early k rank cycle past_steps = refreshed-early k rank cycle 0 (cycle + 
 -- the statistics tell how many cycles a run had
 pub cycles_are : (tables : Tables) (s : Config) (traces : List (List Entry)) (n : ℕ) → (outcome_of tables s traces n).stats.cycles ≡ n
 unfolding outcome_of outcome_after stats_of
-cycles_are tables s traces n = length-run s traces n
+cycles_are tables s traces n = length_run s traces n
 
 pub is_refreshed : (s : Config) (traces : List (List Entry)) (n : ℕ) → IsRefreshed s traces n
 is_refreshed s traces n channel rank m l b some soon =
     let last = m * s.timing.n_refi + refresh_slack s in
     let enough = refreshes_are_in_time s traces n channel rank m l b some (omega arith) in
     let early = history-early channel rank last (channel_steps_of s traces n channel) in
-    subst (λ t. m ≤ refreshes_until rank last t) (sym (rows_on-commands s traces channel l n)) (omega arith)
+    subst (λ t. m ≤ refreshes_until rank last t) (sym (commands_on-commands s traces channel l n)) (omega arith)
 
 -- what holds for each number holds of each element that is made of one
 pub mapped-each : {X : Type 0} (P : X → Type 0) (f : ℕ → X) (a n : ℕ) → ((k : ℕ) → k < a + n → P (f k)) → Each P (map f (range_with_len a n))
@@ -92,7 +92,7 @@ greatest-within a most [] l h = l
 greatest-within a most (x ∷ xs) l h = greatest-within (max a x) most xs (let b = h.0 in omega arith) h.1
 
 longest-fits : (s : Config) (traces : List (List Entry)) (n channel : ℕ) → channel < s.channels
-    → (stats_of_channel s traces (run s traces n) channel).queued_max ≤ most_queued s
+    → (stats_of_channel s traces (run s traces n) channel).queued_max ≤ queue_room s
 unfolding stats_of_channel channel_stats queued_max queue_lengths queue_length
 longest-fits s traces n channel l =
     let past_steps = channel_steps_of s traces n channel in
@@ -103,7 +103,7 @@ longest-fits s traces n channel l =
     (λ cycle b. queues_are_bounded s traces n channel cycle l (omega arith)))
 
 left-fits : (s : Config) (traces : List (List Entry)) (n channel : ℕ) → channel < s.channels
-    → length (last_of_channel s traces (run s traces n) channel).queue ≤ most_queued s
+    → length (last_of_channel s traces (run s traces n) channel).queue ≤ queue_room s
 unfolding last_of_channel channel_last queue_left
 left-fits s traces n channel l = queued_requests-bound s traces n channel (length (channel_steps_of s traces n channel)) l
 
@@ -111,13 +111,13 @@ pub has_bounded_queues : (tables : Tables) (s : Config) (traces : List (List Ent
 unfolding outcome_of outcome_after stats_of final_of
 has_bounded_queues tables s traces n =
     record {
-      longest = all-below (λ (c : ChannelStats). c.queued_max ≤ most_queued s) (stats_of_channel s traces (run s traces n)) s.channels (λ k l. longest-fits s traces n k l);
-      left = all-below (λ (c : LastChannel). length c.queue ≤ most_queued s) (last_of_channel s traces (run s traces n)) s.channels (λ k l. left-fits s traces n k l);
+      longest = all-below (λ (c : ChannelStats). c.queued_max ≤ queue_room s) (stats_of_channel s traces (run s traces n)) s.channels (λ k l. longest-fits s traces n k l);
+      left = all-below (λ (c : LastChannel). length c.queue ≤ queue_room s) (last_of_channel s traces (run s traces n)) s.channels (λ k l. left-fits s traces n k l);
     }
 
 length-core_steps : (s : Config) (traces : List (List Entry)) (n core : ℕ) → length (steps_of_core core (run s traces n)) ≡ n
 unfolding steps_of_core
-length-core_steps s traces n core = length-map (run s traces n) _ ∙ length-run s traces n
+length-core_steps s traces n core = length-map (run s traces n) _ ∙ length_run s traces n
 
 -- what a core holds at the end is no more than at first, since no more came back than it spent
 held-within : (cap back sent : ℕ) → back ≤ sent → cap + back - sent ≤ cap
@@ -130,8 +130,8 @@ held-few s traces n core channel access c l =
     let long : n ≡ length (steps_of_core core (run s traces n)) = sym (length-core_steps s traces n core) in
     let link = credit_link s core channel in
     let mail = inbox s traces (run s traces n) (Core core) in
-    held-within (credit_cap s access) (count_by (is_credit_on link access (length (steps_of_core core (run s traces n)))) mail) (requests_sent s traces n core channel access)
-    (subst (λ i. count_by (is_credit_on link access i) mail ≤ requests_sent s traces n core channel access) long (credits_come_back_once s traces n core channel access c l))
+    held-within (credit_cap s access) (count_by (is_credit_on link access (length (steps_of_core core (run s traces n)))) mail) (requests_sent_count s traces n core channel access)
+    (subst (λ i. count_by (is_credit_on link access i) mail ≤ requests_sent_count s traces n core channel access) long (credits_come_back_once s traces n core channel access c l))
 
 credits-few : (s : Config) (traces : List (List Entry)) (n core : ℕ) → core < s.cores
     → All (λ (held : Credits). held.read ≤ s.read_credits × held.write ≤ s.write_credits) (last_of_core s traces (run s traces n) core).credits

@@ -13,13 +13,13 @@ use Rattle.sim_base.specs.declared.rule.Rule.{Rule}
 use Rattle.sim_base.specs.declared.command.IssuedCommand.{IssuedCommand}
 use Rattle.sim_base.specs.declared.command.Kind.TheVariants as kind
 use Rattle.sim_base.specs.declared.trace.Entry.{Entry}
-use Rattle.sim_base.specs.History.{below, commands}
+use Rattle.sim_base.specs.History.{below, commands, commands_on, stands_before}
 use Rattle.sim_base.specs.Machine.{run}
 use Rattle.sim_base.specs.Rules.{rules, binds, is_bound, gap, is_kind, kind_of, rank_of, relation_of, recent_acts, is_past_gap, keeps_distances, is_allowed, finds_its_banks, is_legal}
 use Rattle.sim_base.proofs.Ordered.{Each-weaker}
 use Rattle.laws.specs.Tables.{IsOrdered, IsLegalTable, IsRefreshedTable}
 use Rattle.laws.proofs.Tabled.{tables_are_ordered, tables_are_legal, tables_are_refreshed}
-use Rattle.rule_check.specs.Broken.{rows_on, stands_before, last_row, stands_wrongly, breaks_order, is_too_close, breaks_distance, breaks_window, is_overdue, breaks_refresh, breaks_in_channel, breaks}
+use Rattle.rule_check.specs.Broken.{last_row, stands_wrongly, breaks_order, is_too_close, breaks_distance, breaks_window, is_overdue, breaks_refresh, breaks_in_channel, breaks}
 use Rattle.rule_check.specs.Verdict.{KeepsRules}
 use Rattle.rule_check.proofs.Passing.{last_row-more}
 use Rattle.run_tables.proofs.TableLaws.InRange.{range-below}
@@ -161,7 +161,7 @@ keeps-rules : (s : Config) (rows : List IssuedCommand) → IsOrdered rows → Is
 unfolding breaks
 keeps-rules s rows ordered legal refreshed i number d l low high =
     let row = get_or rows i d in
-    let history = rows_on row.channel (take i rows) in
+    let history = commands_on row.channel (take i rows) in
     cond_both (eqb number 1) (breaks_order (take i rows) row) (breaks_in_channel s history row number) (λ b. b ≡ false)
     (λ e. keeps-order rows i d ordered l)
     (λ e. keeps-channel s history row number (legal-parts s history row (legal i d l)) (λ rank b some. le-ltb _ row.cycle (refreshed i d rank l b some)))

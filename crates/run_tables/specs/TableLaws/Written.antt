@@ -25,8 +25,10 @@ pub record BankIsOf (s : Config) (place : BankId) : Type 0 where
 -- what a command names is of the configuration
 abbrev pub CommandIsOf : Config → Command → Type 0
 CommandIsOf s (Act bank row source) = BankIsOf s bank × (row < s.rows) × SourceIsOf s source
-CommandIsOf s (Rd bank row column source) = BankIsOf s bank × (row < s.rows) × (column < s.columns) × SourceIsOf s source
-CommandIsOf s (Wr bank row column source) = BankIsOf s bank × (row < s.rows) × (column < s.columns) × SourceIsOf s source
+CommandIsOf s (Rd bank row column source) =
+    BankIsOf s bank × (row < s.rows) × (column < s.columns) × SourceIsOf s source
+CommandIsOf s (Wr bank row column source) =
+    BankIsOf s bank × (row < s.rows) × (column < s.columns) × SourceIsOf s source
 CommandIsOf s (Pre bank source) = BankIsOf s bank × SourceIsOf s source
 CommandIsOf s (Prea rank) = rank < s.ranks
 CommandIsOf s (Ref rank) = rank < s.ranks

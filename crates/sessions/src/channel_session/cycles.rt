@@ -1,7 +1,6 @@
-//! Cycles of a session, or of a memory of several: where a run may end, and which of two is the earlier.
+//! Cycles of a session, or of a memory of several: where a run may end.
 
 ghost use Rattle.std.specs.Prelude.{◌≡◌};
-ghost use Rattle.sessions.specs.Ahead.{earlier};
 ghost use Rattle.sessions.specs.Sessions.{end_refusal};
 
 use crate::channel_session::fault::SessionFault;
@@ -20,16 +19,5 @@ pub fn end_refusal(now: Cycle, until: Cycle) -> Option<SessionFault>
         Some(SessionFault::EndTooLate)
     } else {
         None
-    }
-}
-
-/// The earlier of two cycles, each of which there may be.
-pub fn earlier(one: Option<Cycle>, other: Option<Cycle>) -> Option<Cycle>
-    ensures { result ≡ earlier one other }
-{
-    match (one, other) {
-        (Some(one), Some(other)) => Some(one.min(other)),
-        (Some(one), None) => Some(one),
-        (None, other) => other,
     }
 }

@@ -4,14 +4,14 @@ ghost use Rattle.std.specs.Prelude.{◌≡◌, ◌≢◌, ◌+◌, ◌-◌, ◌<
 ghost use Rattle.std.specs.List.{list_all};
 ghost use Rattle.sim_base.specs.History.{is_before};
 ghost use Rattle.sim_base.specs.Places.{place_of};
-ghost use Rattle.channel_step.specs.Fit.{queue_room};
+ghost use Rattle.sim_base.specs.Scheduling.{queue_room};
 ghost use Rattle.sessions.specs.Sent.{message_of, is_unasked};
 ghost use Rattle.sessions.specs.Ahead.{IsNextAct, first_arrival};
 ghost use Rattle.sessions.specs.Addresses.{IsAddress};
 ghost use Rattle.sessions.specs.Sessions.{core_of, IsSession, ForPasts, IsOpen, no_past, next_command_of, next_reply_of, statistics_of, waiting_of, with_request, with_command, with_reply, number_refusal, refusal, end_refusal, IsAnswer, HasTaken};
 ghost use Rattle.sessions.specs.declared.channel_session.fault.SessionFault.TheVariants.{Memory};
 
-use crate::channel_session::cycles::{earlier, end_refusal};
+use crate::channel_session::cycles::end_refusal;
 use crate::channel_session::fault::SessionFault;
 use crate::channel_session::held::{HeldCommands, HeldReplies};
 use crate::channel_session::places::address_of;
@@ -21,7 +21,7 @@ use address_map::place_of;
 use channel_step::channel::{Channel, queue_room};
 use sim_base::command::IssuedCommand;
 use sim_base::config::Config;
-use sim_base::message::{ChannelId, Cycle, Message};
+use sim_base::message::{ChannelId, Cycle, Message, earlier};
 use sim_base::place::Place;
 use statistics::channels::ChannelStats;
 use std::alloc::{AllocError, Global};

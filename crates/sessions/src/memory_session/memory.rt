@@ -8,7 +8,7 @@ ghost use Rattle.sessions.specs.declared.channel_session.fault.SessionFault.TheV
 ghost use Rattle.sessions.specs.declared.channel_session.session.Session.{Session};
 ghost use Rattle.sessions.specs.Memories.{Pasts, IsMemory, ForPasts, IsOpenMemory, no_pasts, AreNewChannels, memory_refusal, with_request_of, TakesCommand, TakesReply, IsFirstCommand, IsFirstReply, command_from, reply_from, IsNextCommand, IsNextReply, IsNextActOf, stats_of, EachMayRun, EachHasRun};
 
-use crate::channel_session::cycles::{earlier, end_refusal};
+use crate::channel_session::cycles::end_refusal;
 use crate::channel_session::fault::SessionFault;
 use crate::channel_session::places::address_of;
 use crate::channel_session::requests::{SentRequest, core_of};
@@ -16,7 +16,7 @@ use crate::channel_session::session::Session;
 use crate::memory_session::cycles::earlier_numbered;
 use sim_base::command::IssuedCommand;
 use sim_base::config::Config;
-use sim_base::message::{ChannelId, Cycle, Message};
+use sim_base::message::{ChannelId, Cycle, Message, earlier};
 use sim_base::place::Place;
 use statistics::channels::ChannelStats;
 use std::alloc::Global;

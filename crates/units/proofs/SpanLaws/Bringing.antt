@@ -75,7 +75,8 @@ channel-known s traces a until channel t =
     (requests-known s traces a until (until - a) until channel t (omega arith) (omega arith)).0
     ∙ sym ((requests-known s traces a until (until - a) a channel t (omega arith) (omega arith)).0)
 
--- so it is with a core
+-- what arrives at a core before a cycle, not further beyond the channels than any credit or reply takes, was sent
+-- before the cycle where they stand
 pub core-known : (s : Config) (traces : List (List Entry)) (b until core : ℕ) → AnswersTakeFor s (until - b)
     → mail_before s traces until (Core core) until ≡ mail_before s traces b (Core core) until
 core-known s traces b until core t =

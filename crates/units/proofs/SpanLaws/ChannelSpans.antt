@@ -4,7 +4,7 @@ use Rattle.sim_base.specs.declared.config.Config.{Config}
 use Rattle.sim_base.specs.Counts.{queue_length}
 use Rattle.sim_base.specs.History.{inbox}
 use Rattle.sim_base.specs.Machine.{run, channel_run}
-use Rattle.sim_base.specs.Scheduling.{choice, queue_in}
+use Rattle.sim_base.specs.Scheduling.{choice, queue_in, queue_room}
 use Rattle.sim_base.specs.declared.message.Message.{Message}
 use Rattle.sim_base.specs.declared.message.Unit.TheVariants.{Channel}
 use Rattle.sim_base.specs.declared.trace.Entry.{Entry}
@@ -17,7 +17,7 @@ use Rattle.laws.proofs.Bounded.{queues_are_bounded}
 use Rattle.laws.proofs.Legal.{channel_steps_of-more, length-channel_steps_of}
 use Rattle.laws.proofs.Travel.{links_carry_one_a_cycle}
 use Rattle.channel_step.specs.Past.{CarriesRequest}
-use Rattle.channel_step.specs.Fit.{queue_room, ComeByAge}
+use Rattle.channel_step.specs.Fit.{ComeByAge}
 use Rattle.units.specs.SpanLaws.Channels.{RequestsFitSpans, ChannelsRunAlone}
 use Rattle.units.specs.SpanLaws.Mail.{mail_before, mail_in}
 use Rattle.units.proofs.SpanLaws.Arrivals.{count-mine, arrived-agree, spans-join}

@@ -13,14 +13,14 @@ use Rattle.sim_base.proofs.Arrived.{arrived, not_before_le}
 use Rattle.sim_base.proofs.Each.{Each-append, Each-both}
 use Rattle.sim_base.proofs.Ordered.{Each-weaker, Sorted}
 use Rattle.sim_base.proofs.Same.{step-same}
-use Rattle.sim_base.proofs.Spans.{length-run, inbox-sorted}
+use Rattle.sim_base.proofs.Spans.{length_run, inbox-sorted}
 use Rattle.statistics.proofs.Replies.{length-steps_of_core}
 use Rattle.statistics.proofs.RunSteps.{steps_of_core-next}
 use Rattle.laws.specs.Messages.{FitsCore}
 use Rattle.laws.specs.Requests.{AnswersRead}
 use Rattle.laws.proofs.Answered.{replies_answer_reads}
 use Rattle.laws.proofs.Fitting.{answers_fit}
-use Rattle.core_window.specs.Fit.{IsDue, IsByArrival}
+use Rattle.core_window.specs.Fit.{MayCome, IsByArrival}
 use Rattle.units.specs.SpanLaws.Cores.{core_steps_of, MessagesFitSpans, CoresRunAlone}
 use Rattle.units.specs.SpanLaws.Mail.{mail_before, mail_in}
 use Rattle.units.proofs.SpanLaws.Arrivals.{arrived-agree, spans-join}
@@ -38,7 +38,7 @@ core-alone s traces from until core k (suc n) l =
     let steps = core_steps_of s traces now core in
     let mail = mail_before s traces until (Core core) until in
     let then = inbox s traces (run s traces now) (Core core) in
-    let long : length steps ≡ now = length-steps_of_core core (run s traces now) ∙ length-run s traces now in
+    let long : length steps ≡ now = length-steps_of_core core (run s traces now) ∙ length_run s traces now in
     let same : arrived mail (length steps + 1) ≡ arrived then (length steps + 1) =
     subst (λ i. arrived mail (i + 1) ≡ arrived then (i + 1)) (sym long) ((arrived-agree s traces now until (Core core) (omega arith)).same (now + 1) (omega arith)) in
     ap (λ x. x ++ (step s core trace x mail).0 ∷ []) (core-alone s traces from until core k n (omega arith))
@@ -66,7 +66,7 @@ at-split : (P : Message → Type 0) (xs ys : List Message) (m : Message) → Eac
 at-split P [] ys m h = h.0
 at-split P (x ∷ xs) ys m h = at-split P xs ys m h.1
 
--- those before a message arrive no later
+-- in a list by arrival, the messages before another arrive no later than that
 sooner-split : (xs ys : List Message) (m : Message) → IsByArrival (xs ++ m ∷ ys) → Each (λ (n : Message). n.arrival ≤ m.arrival) xs
 sooner-split [] ys m h = tt
 sooner-split (x ∷ xs) ys m h = (at-split (λ (n : Message). x.arrival ≤ n.arrival) xs ys m h.0, sooner-split xs ys m h.1)
@@ -95,7 +95,7 @@ span-answers s traces from until core k = arriving-within from until (IsAnswer s
 -- each of them may come after those before it
 span-due : (s : Config) (traces : List (List Entry)) (from until core : ℕ) → core < s.cores → from ≤ until → (before after : List Message) (m : Message)
     → mail_in s traces until (Core core) from until ≡ before ++ m ∷ after
-    → IsDue s core (trace_of traces core)
+    → MayCome s core (trace_of traces core)
     (core_run s core (trace_of traces core) (core_steps_of s traces from core) (mail_before s traces until (Core core) from ++ mail_in s traces until (Core core) from until) (m.arrival - from))
     (mail_before s traces until (Core core) from ++ before) m
 span-due s traces from until core k l before after m e =
@@ -118,7 +118,7 @@ span-due s traces from until core k l before after m e =
           (Each-weaker (λ (x : Message). x.arrival < from) (λ (x : Message). x.arrival ≤ m.arrival) (λ x h. omega arith) mail (before-within from all))
           (sooner-split before after m (subst IsByArrival e (span-by_arrival s traces from until core)));
     } in
-    subst (λ r. IsDue s core trace r (mail ++ before) m) (sym steps) (comes-due s traces until core (mail ++ before) after m k comes here.2.0 here.2.1)
+    subst (λ r. MayCome s core trace r (mail ++ before) m) (sym steps) (comes-due s traces until core (mail ++ before) after m k comes here.2.0 here.2.1)
 
 pub messages-fit_spans : (s : Config) (traces : List (List Entry)) (from until : ℕ) → MessagesFitSpans s traces from until
 messages-fit_spans s traces from until core k l =

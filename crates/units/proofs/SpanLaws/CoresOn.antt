@@ -13,7 +13,7 @@ use Rattle.sim_base.specs.declared.message.Message.{Message}
 use Rattle.sim_base.specs.declared.message.Unit.TheVariants.{Core}
 use Rattle.sim_base.specs.declared.trace.Entry.{Entry}
 use Rattle.sim_base.proofs.Arrived.{arrived}
-use Rattle.sim_base.proofs.Spans.{length-run}
+use Rattle.sim_base.proofs.Spans.{length_run}
 use Rattle.sim_base.specs.declared.message.Access.{Access}
 use Rattle.sim_base.specs.declared.message.Access.TheVariants as access
 use Rattle.statistics.specs.Cores.{core_stats}
@@ -70,7 +70,7 @@ cores-go_on s traces from until core before after sent k l h runs =
     )
 
 pub length-core_steps_of : (s : Config) (traces : List (List Entry)) (n core : ℕ) → length (core_steps_of s traces n core) ≡ n
-length-core_steps_of s traces n core = length-steps_of_core core (run s traces n) ∙ length-run s traces n
+length-core_steps_of s traces n core = length-steps_of_core core (run s traces n) ∙ length_run s traces n
 
 -- what has not arrived is no credit
 credits-arrived : (link : ℕ) (access : Access) (until : ℕ) (ms : List Message) → count_by (is_credit_on link access until) (arrived ms until) ≡ count_by (is_credit_on link access until) ms

@@ -19,17 +19,17 @@ use Rattle.sim_base.specs.declared.message.Unit.TheVariants.{Core}
 use Rattle.sim_base.specs.declared.trace.Entry.{Entry}
 use Rattle.sim_base.proofs.Arrived.{arrived}
 use Rattle.sim_base.proofs.Ordered.{Each-weaker}
-use Rattle.sim_base.proofs.Spans.{length-run}
+use Rattle.sim_base.proofs.Spans.{length_run}
 use Rattle.sim_base.specs.declared.message.Access.{Access}
 use Rattle.sim_base.proofs.Accesses.{is_access-own}
 use Rattle.sim_base.proofs.Lists.{count-cons, filter-each}
-use Rattle.laws.specs.Credits.{requests_sent}
+use Rattle.laws.specs.Credits.{requests_sent_count}
 use Rattle.laws.specs.Messages.{FitsCore}
 use Rattle.laws.specs.Requests.{AnswersReadAs}
 use Rattle.laws.proofs.Answered.{reads_are_answered_once}
 use Rattle.laws.proofs.Conserved.{served, conserved, credits-served}
 use Rattle.laws.proofs.Counting.{count-append}
-use Rattle.core_window.specs.Fit.{IsDuePayload, IsDue}
+use Rattle.core_window.specs.Fit.{MayCarry, MayCome}
 use Rattle.core_window.specs.Stands.{is_credit_from}
 use Rattle.core_window.specs.Outstanding.{is_read_in, is_answered}
 use Rattle.units.specs.SpanLaws.Cores.{core_steps_of}
@@ -48,10 +48,10 @@ take-run s traces (suc n) t h = go (cases_lt n t) (take-run s traces n t)
     go : (n < t) ⊎ (t ≤ n) → (t ≤ n → take t (run s traces n) ≡ run s traces t) → take t (run s traces (suc n)) ≡ run s traces t
     go (inl b) rest =
         let e : t ≡ suc n = omega arith in
-        let long = length-run s traces (suc n) in
+        let long = length_run s traces (suc n) in
         take_all t (run s traces (suc n)) (omega arith) ∙ ap (run s traces) (sym e)
     go (inr b) rest =
-        let long = length-run s traces n in
+        let long = length_run s traces n in
         take-append-le t (run s traces n) (next_step s traces (run s traces n) ∷ []) (omega arith) ∙ rest b
 
 take-steps_of_core : (s : Config) (traces : List (List Entry)) (n t core : ℕ) → t ≤ n → take t (core_steps_of s traces n core) ≡ core_steps_of s traces t core
@@ -77,7 +77,7 @@ reply-first entry mail after m e h =
 
 -- a credit that has come by a cycle is for a request that was sent before
 credits-sent : (s : Config) (traces : List (List Entry)) (n core channel : ℕ) (access : Access) → channel < s.channels
-    → count_by (is_credit_from (credit_link s core channel) access) (inbox s traces (run s traces n) (Core core)) ≤ requests_sent s traces n core channel access
+    → count_by (is_credit_from (credit_link s core channel) access) (inbox s traces (run s traces n) (Core core)) ≤ requests_sent_count s traces n core channel access
 credits-sent s traces n core channel access l =
     let p = is_credit_from (credit_link s core channel) access in
     let a = count-mine p s traces (run s traces n) (Core core) in
@@ -116,7 +116,7 @@ replied-once s traces until core entry mail after m l h e =
 
 credit-owed : (s : Config) (traces : List (List Entry)) (until core channel : ℕ) (access : Access) (entry : ℕ) (mail after : List Message) (m : Message) → channel < s.channels
     → ComesTo s traces until core mail after m → m.payload ≡ payload.Credit access entry → m.link ≡ credit_link s core channel
-    → count_by (is_credit_from (credit_link s core channel) access) mail < requests_sent s traces m.arrival core channel access
+    → count_by (is_credit_from (credit_link s core channel) access) mail < requests_sent_count s traces m.arrival core channel access
 credit-owed s traces until core channel access entry mail after m l h e f =
     let p = is_credit_from (credit_link s core channel) access in
     let now = m.arrival in
@@ -133,11 +133,11 @@ credit-owed s traces until core channel access entry mail after m l h e f =
 -- each message to a core may come in its cycle
 pub comes-due : (s : Config) (traces : List (List Entry)) (until core : ℕ) (mail after : List Message) (m : Message) → core < s.cores → ComesTo s traces until core mail after m
     → FitsCore s core m.link m.payload → AnswersReadAs (trace_of traces core) (core_steps_of s traces until core) m.arrival m.payload
-    → IsDue s core (trace_of traces core) (core_steps_of s traces m.arrival core) mail m
+    → MayCome s core (trace_of traces core) (core_steps_of s traces m.arrival core) mail m
 comes-due s traces until core mail after m l h fits answers = by m.payload refl fits answers
   where
     by : (d : Payload) → m.payload ≡ d → FitsCore s core m.link d → AnswersReadAs (trace_of traces core) (core_steps_of s traces until core) m.arrival d
-        → IsDuePayload s core (trace_of traces core) (core_steps_of s traces m.arrival core) mail m.link d
+        → MayCarry s core (trace_of traces core) (core_steps_of s traces m.arrival core) mail m.link d
     by (payload.Request r) e f a = f
     by (payload.Reply entry) e f a =
         record {

@@ -5,16 +5,16 @@ use Rattle.std.specs.List.{list_any}
 use Rattle.std.proofs.lemmas.Bool.{cases_lt, lt-ltb, le-ltb, le-leb, lt-leb, eqb-true, or_parts}
 use Rattle.sim_base.specs.declared.config.Config.{Config}
 use Rattle.sim_base.specs.Counts.{is_in_flight, in_flight}
-use Rattle.sim_base.specs.History.{is_unit, messages, by_age}
+use Rattle.sim_base.specs.History.{is_unit, messages, by_age, receiver_of}
 use Rattle.sim_base.specs.Machine.{run}
 use Rattle.sim_base.specs.declared.message.Message.{Message}
 use Rattle.sim_base.specs.declared.message.Unit.{Unit as MachineUnit}
 use Rattle.sim_base.specs.declared.message.Unit.TheVariants.{Core, Channel}
 use Rattle.sim_base.specs.declared.trace.Entry.{Entry}
 use Rattle.sim_base.proofs.Each.{Each-all}
-use Rattle.sim_base.proofs.Spans.{length-run}
+use Rattle.sim_base.proofs.Spans.{length_run}
 use Rattle.sim_base.proofs.Lists.{filter-both, filter-each, filter-agree, not-or}
-use Rattle.links.specs.InFlight.{is_due, receiver_of}
+use Rattle.links.specs.InFlight.{is_due}
 use Rattle.units.specs.SpanLaws.Flight.{has_unit, left_after}
 
 -- a message arrives in a span
@@ -38,7 +38,7 @@ unfolding in_flight
 in_flight-late s traces now =
     let history = run s traces now in
     let sent = messages s traces history in
-    let long : length history ≡ now = length-run s traces now in
+    let long : length history ≡ now = length_run s traces now in
     let same : (m : Message) → is_in_flight history m ≡ not_before now m = λ m. ap (λ i. not (ltb m.arrival i)) long ∙ not-lt m.arrival now in
     ap by_age (filter-agree (is_in_flight history) (not_before now) sent (Each-all (λ (m : Message). is_in_flight history m ≡ not_before now m) same sent))
 

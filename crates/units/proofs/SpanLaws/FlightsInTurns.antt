@@ -18,12 +18,12 @@ use Rattle.sim_base.proofs.Below.{flat_map_below_same}
 use Rattle.sim_base.proofs.Each.{Each-all, Each-filter, Each-flat_map_below, Each-last}
 use Rattle.sim_base.proofs.Grows.{SentBy, of_core-by, of_channel-by, grow, cores_differ, channels_differ}
 use Rattle.sim_base.proofs.Ordered.{Apart, Each-weaker, puts-swap, puts-append, Sorted-puts, filter-by_age, filter-puts}
-use Rattle.sim_base.proofs.Spans.{length-run}
+use Rattle.sim_base.proofs.Spans.{length_run}
 use Rattle.sim_base.specs.Sends.{sender}
 use Rattle.sim_base.proofs.Lists.{filter-both, filter-each, filter-agree, filter-none}
 use Rattle.links.specs.InFlight.{is_due}
 use Rattle.units.specs.SpanLaws.Mail.{arriving}
-use Rattle.units.specs.SpanLaws.FlightInTurns.{is_request, flight_of, left_by_channels, left_by_cores, FlightsMeet, ChannelsAreBrought, CoresAreBrought, ChannelsGoFurther, CoresGoFurther, ChannelsGoFurtherFor, CoresGoFurtherFor}
+use Rattle.units.specs.SpanLaws.FlightInTurns.{is_request, flight_of, left_by_channels, left_by_cores, FlightsMeet, HoldChannelInboxes, HoldCoreInboxes, ChannelsGoFurther, CoresGoFurther, ChannelsGoFurtherFor, CoresGoFurtherFor}
 use Rattle.units.specs.SpanLaws.Sent.{requests_sent, answers_sent}
 use Rattle.units.proofs.SpanLaws.Flights.{due-left, not_before, in_span, not-lt, and-swap, later-both}
 use Rattle.units.proofs.SpanLaws.Late.{core-sent_late, channel-sent_late}
@@ -35,7 +35,7 @@ unfolding in_flight messages
 flights-meet s traces now =
     let history = run s traces now in
     let sent = requests_sent s traces now ++ answers_sent s traces now in
-    let long : length history ≡ now = length-run s traces now in
+    let long : length history ≡ now = length_run s traces now in
     let same : (m : Message) → is_in_flight history m ≡ not_before now m = λ m. ap (λ i. not (ltb m.arrival i)) long ∙ not-lt m.arrival now in
     ap by_age
     (sym (filter-append (not_before now) (requests_sent s traces now) (answers_sent s traces now))
@@ -49,8 +49,8 @@ due-mail s from until unit sent =
     sym (filter-both due (not_before from) due (λ m. and-swap (is_unit (receiver s m.link) unit) (leb from m.arrival) (ltb m.arrival until)) sent)
     ∙ filter-both (in_span from until) (is_to s unit) due (λ m. refl) sent
 
-pub channels-brought : (s : Config) (traces : List (List Entry)) (a b until : ℕ) → ChannelsAreBrought s traces a b until
-channels-brought s traces a b until units least channel other t h =
+pub channels-holds_inbox : (s : Config) (traces : List (List Entry)) (a b until : ℕ) → HoldChannelInboxes s traces a b until
+channels-holds_inbox s traces a b until units least channel other t h =
     let due = is_due s.channels (Channel channel) b until in
     let xs = filter (not_before b) (requests_sent s traces a) in
     let ys = filter (not_before a) (answers_sent s traces b) in
@@ -63,8 +63,8 @@ channels-brought s traces a b until units least channel other t h =
     ∙ ap by_age (filter-append due xs ys ∙ ap₂ (λ x y. x ++ y) (due-mail s b until (Channel channel) (requests_sent s traces a)) none ∙ append-nil _)
     ∙ sym ((requests-known s traces a until least until channel t h (omega arith)).1 b)
 
-pub cores-brought : (s : Config) (traces : List (List Entry)) (a b until : ℕ) → CoresAreBrought s traces a b until
-cores-brought s traces a b until units least core other t h =
+pub cores-holds_inbox : (s : Config) (traces : List (List Entry)) (a b until : ℕ) → HoldCoreInboxes s traces a b until
+cores-holds_inbox s traces a b until units least core other t h =
     let due = is_due s.channels (Core core) a until in
     let xs = filter (not_before b) (requests_sent s traces a) in
     let ys = filter (not_before a) (answers_sent s traces b) in

@@ -21,7 +21,7 @@ rest-push steps n =
     ap (λ x. steps ++ x) (ap (λ k. replicate k idle_step) (sym (add-one n)) ∙ sym (replicate_more {X = CoreStep} n idle_step))
     ∙ sym (append_assoc steps (replicate n idle_step) (idle_step ∷ []))
 
--- it requests nothing in the last of them
+-- a core requests nothing in an idle cycle
 rest-silent : (s : Config) (core : ℕ) (trace : List Entry) (steps : List CoreStep) → requests_in s core trace (steps ++ idle_step ∷ []) (length steps) ≡ []
 unfolding requests_in
 rest-silent s core trace steps =
@@ -31,7 +31,7 @@ rest-silent s core trace steps =
     nothing-between s core trace (length steps) (issued_before (take (length steps) more)) (issued_before (take (length steps + 1) more))
     (ap issued_before all ∙ issued_before-push steps idle_step ∙ add-zero (issued_before steps) ∙ ap issued_before (sym old))
 
--- so they send nothing
+-- a core sends nothing in idle cycles
 pub rest-messages : (s : Config) (core : ℕ) (trace : List Entry) (steps : List CoreStep) (n : ℕ) → core_messages s core trace (steps ++ replicate n idle_step) ≡ core_messages s core trace steps
 rest-messages s core trace steps zero = ap (core_messages s core trace) (append-nil steps)
 rest-messages s core trace steps (suc n) =

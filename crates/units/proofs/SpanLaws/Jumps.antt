@@ -31,7 +31,7 @@ use Rattle.units.proofs.SpanLaws.Silent.{none-part}
 use Rattle.units.proofs.SpanLaws.Later.{IsReceived, messages-received}
 use Rattle.units.specs.SpanLaws.FlightInTurns.{is_request, flight_of, left_by_channels, left_by_cores, ChannelsTakeTheirs, CoresTakeTheirs, LaterStays}
 use Rattle.units.specs.SpanLaws.Sent.{requests_sent, answers_sent, RequestsTravelFor, AnswersTakeFor}
-use Rattle.units.specs.SpanLaws.Turns.{MayBeLeft, IsInTurns, IsLowered, TurnsBegin, TurnsJump, ChannelsIdle, CoresIdle}
+use Rattle.units.specs.SpanLaws.Turns.{MaySleep, IsInTurns, IsLowered, TurnsBegin, TurnsJump, ChannelsIdle, CoresIdle}
 use Rattle.units.proofs.SpanLaws.Requesting.{requests-each, answers-each, request-to, answer-to}
 use Rattle.units.proofs.SpanLaws.FlightsInTurns.{flights-meet, channels-left, cores-left}
 use Rattle.units.proofs.SpanLaws.Leasts.{request-meets, request-positive}
@@ -63,7 +63,7 @@ requests-none s n e core channel c k = omega arith
 pub answers-none : (s : Config) (n : ℕ) → n ≡ 0 → AnswersTakeFor s n
 answers-none s n e core channel c k = (omega arith, omega arith)
 
-waits-now : (s : Config) (traces : List (List Entry)) (now : ℕ) (u : MachineUnit) → MayBeLeft s traces now now u now now
+waits-now : (s : Config) (traces : List (List Entry)) (now : ℕ) (u : MachineUnit) → MaySleep s traces now now u now now
 waits-now s traces now (Core core) = record { behind = omega arith; ahead = omega arith; silent = silent-now s traces now (Core core); none = none-now s traces now now (Core core) }
 waits-now s traces now (Channel channel) = record { behind = omega arith; ahead = omega arith; silent = silent-now s traces now (Channel channel); none = none-now s traces now now (Channel channel) }
 
@@ -204,7 +204,7 @@ cores-idle s traces a b until at wake flight l t sleeps h =
       flight_is = sym same ∙ ap (fold insert_by_age (left_by_cores until flight)) (sym (nothing-sent s.cores));
     })
 
--- both kinds go on by a cycle at a time
+-- cores and channels go on by a cycle at a time, and none is touched
 steps-on : (s : Config) (traces : List (List Entry)) (now until : ℕ) (at wake : MachineUnit → ℕ) (flight : List Message) → ((unit : MachineUnit) → Exists s unit → until ≤ wake unit)
     → IsInTurns s traces now now at wake flight → (k : ℕ) → now + k ≤ until → IsInTurns s traces (now + k) (now + k) at wake flight
 steps-on s traces now until at wake flight sleeps h zero l = let e : now ≡ now + 0 = omega arith in subst (λ n. IsInTurns s traces n n at wake flight) e h

@@ -20,7 +20,7 @@ use Rattle.sim_base.proofs.Added.{ServesCoreBelow, link_below, channel_messages-
 use Rattle.sim_base.proofs.Arrived.{NotBefore}
 use Rattle.sim_base.proofs.Each.{Each-all, Each-filter_map}
 use Rattle.sim_base.proofs.Grows.{core-grows}
-use Rattle.sim_base.proofs.Spans.{length-run}
+use Rattle.sim_base.proofs.Spans.{length_run}
 use Rattle.laws.specs.Commands.{channel_steps_of}
 use Rattle.laws.proofs.Legal.{chosen, channel_steps_of-more, length-channel_steps_of}
 use Rattle.laws.proofs.Receivers.{place_in}
@@ -70,7 +70,7 @@ core-late s traces from n u core k t b zero =
     (ap (λ i. messages_of_core s traces (run s traces i) core) (add-zero from))
 core-late s traces from n u core k t b (suc m) =
     let history = run s traces (from + m) in
-    let long : length history ≡ from + m = length-run s traces (from + m) in
+    let long : length history ≡ from + m = length_run s traces (from + m) in
     grows-again u (messages_of_core s traces (run s traces from) core) (messages_of_core s traces history core) (messages_of_core s traces (run s traces (from + suc m)) core)
     (core_sends s traces history (next_step s traces history) core)
     (core-late s traces from n u core k t b m)

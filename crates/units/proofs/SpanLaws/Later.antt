@@ -49,7 +49,8 @@ grows-again u old mid all next g e h =
       late = Each-append (λ (m : Message). u ≤ m.arrival) g.more next g.late h;
     }
 
--- so that any such more does
+-- where a list has more at its end that arrives no sooner than a cycle, anything by which it grows to the same list
+-- arrives no sooner
 pub grows-late : (u : ℕ) (old all more : List Message) → GrowsLate u old all → all ≡ old ++ more → NotBefore u more
 grows-late u old all more g e = subst (NotBefore u) (append_cancel_left old g.more more (sym g.is_more ∙ e)) g.late
 

@@ -21,7 +21,7 @@ arriving-late : (from until : ℕ) (ms : List Message) → NotBefore from ms →
 arriving-late from until [] h = refl
 arriving-late from until (m ∷ ms) h = ap₂ (λ b x. cond b (m ∷ x) x) (ap (λ b. b && ltb m.arrival until) (le-leb from m.arrival h.0)) (arriving-late from until ms h.1)
 
--- those that arrived before a span, and those that arrive in it
+-- the messages that arrived before a span, and those that arrive in it, are those that arrived by its end
 pub arriving-more : (from until : ℕ) → from ≤ until → (ms : List Message) → Sorted ms → arrived ms from ++ arriving from until ms ≡ arrived ms until
 arriving-more from until l [] h = refl
 arriving-more from until l (m ∷ ms) h =

@@ -4,15 +4,15 @@ use Rattle.std.specs.List.{AllByRecursion as Each}
 use Rattle.std.proofs.lemmas.List.Elements.{All-from_get_or, recursion_from_All}
 use Rattle.std.proofs.lemmas.List.FromFn.{length-map-range_with_len}
 use Rattle.sim_base.specs.declared.config.Config.{Config}
-use Rattle.sim_base.specs.History.{commands}
+use Rattle.sim_base.specs.History.{commands, stands_before}
 use Rattle.sim_base.specs.Machine.{run, next_step, next_command}
 use Rattle.sim_base.specs.declared.command.Command.{Command}
 use Rattle.sim_base.specs.declared.command.IssuedCommand.{IssuedCommand}
 use Rattle.sim_base.specs.declared.trace.Entry.{Entry}
 use Rattle.sim_base.proofs.Each.{Each-append}
 use Rattle.sim_base.proofs.Ordered.{Each-weaker}
-use Rattle.sim_base.proofs.Spans.{length-run}
-use Rattle.laws.specs.Tables.{stands_before, IsOrdered}
+use Rattle.sim_base.proofs.Spans.{length_run}
+use Rattle.laws.specs.Tables.{IsOrdered}
 use Rattle.laws.proofs.Tabled.{rows_from, commands-more}
 
 -- each row stands before those after it
@@ -49,7 +49,7 @@ commands-within s traces zero = tt
 commands-within s traces (suc n) =
     let history = run s traces n in
     let machine_step = next_step s traces history in
-    let long : length history ≡ n = length-run s traces n in
+    let long : length history ≡ n = length_run s traces n in
     let wide : length machine_step.commands ≡ s.channels = length-map-range_with_len (next_command s traces history) 0 s.channels in
     let P = λ (x : IssuedCommand). (x.cycle < suc n) × (x.channel < s.channels) in
     subst (Each P) (sym (commands-more history machine_step))

@@ -24,10 +24,10 @@ use Rattle.sim_base.specs.declared.trace.Entry.{Entry}
 use Rattle.sim_base.proofs.Arrived.{Each-by_age}
 use Rattle.sim_base.proofs.Below.{below_more}
 use Rattle.sim_base.proofs.Cycles.{cycles-stay}
-use Rattle.sim_base.proofs.Each.{Each-filter}
+use Rattle.sim_base.proofs.Each.{Each-filter, list_all-each}
 use Rattle.sim_base.proofs.Grows.{issued_before-push, inbox-grows}
 use Rattle.sim_base.proofs.Ordered.{Each-weaker}
-use Rattle.sim_base.proofs.Spans.{length-run, step_of_core-next, step_of_channel-next}
+use Rattle.sim_base.proofs.Spans.{length_run, step_of_core-next, step_of_channel-next}
 use Rattle.statistics.proofs.CoreCounts.{retired_before-push}
 use Rattle.statistics.proofs.KeepsToTrace.{KeepsToTrace-run}
 use Rattle.statistics.proofs.RunSteps.{steps_of_core-next}
@@ -71,10 +71,6 @@ each-below p (suc n) h =
     ap (list_all p) (below_more n) ∙ list_all-append p (below n) (n ∷ [])
     ∙ and_from (list_all p (below n)) (p n && true) (each-below p n (λ k l. h k (omega arith))) (and_from (p n) true (h n (omega arith)) refl)
 
-all-each : (p : Message → Bool) (ms : List Message) → Each (λ m. p m ≡ true) ms → list_all p ms ≡ true
-all-each p [] h = refl
-all-each p (m ∷ ms) h = and_from (p m) (list_all p ms) h.0 (all-each p ms h.1)
-
 -- what it means that a run is over before cycle n
 record Over (s : Config) (traces : List (List Entry)) (n : ℕ) : Type 0 where
   retired : (core : ℕ) → core < s.cores → retired_before (core_steps_of s traces n core) ≡ length (trace_of traces core)
@@ -85,7 +81,7 @@ over-parts : (s : Config) (traces : List (List Entry)) (n : ℕ) → is_over s t
 unfolding is_over is_retired is_delivered has_served
 over-parts s traces n h =
     let history = run s traces n in
-    let long : length history ≡ n = length-run s traces n in
+    let long : length history ≡ n = length_run s traces n in
     let outer = and_parts (list_all (is_retired traces history) (below s.cores) && is_delivered s traces history) (list_all (has_served s traces history) (below s.channels)) h in
     let inner = and_parts (list_all (is_retired traces history) (below s.cores)) (is_delivered s traces history) outer.0 in
     record {
@@ -102,11 +98,11 @@ over-from : (s : Config) (traces : List (List Entry)) (n : ℕ) → Over s trace
 unfolding is_over is_retired is_delivered has_served
 over-from s traces n h =
     let history = run s traces n in
-    let long : length history ≡ n = length-run s traces n in
+    let long : length history ≡ n = length_run s traces n in
     and_from (list_all (is_retired traces history) (below s.cores) && is_delivered s traces history) (list_all (has_served s traces history) (below s.channels))
     (and_from (list_all (is_retired traces history) (below s.cores)) (is_delivered s traces history)
     (each-below (is_retired traces history) s.cores (λ core l. eq-eqb _ _ (h.retired core l)))
-    (all-each (λ (m : Message). ltb m.arrival (length history)) (messages s traces history)
+    (list_all-each (λ (m : Message). ltb m.arrival (length history)) (messages s traces history)
     (Each-weaker (λ (m : Message). m.arrival < n) (λ (m : Message). ltb m.arrival (length history) ≡ true) (λ m a. lt-ltb m.arrival (length history) (omega arith)) (messages s traces history) h.delivered)))
     (each-below (has_served s traces history) s.channels
     (λ channel l. eq-eqb _ 0
@@ -162,7 +158,7 @@ none-waits s traces n channel u l h m =
 abbrev IsSilent : Config → ℕ → ℕ → Command → Type 0
 IsSilent s channel cycle command = messages_of s channel cycle command ≡ []
 
--- so it is no column command
+-- where a run is over, what a channel chooses is no column command
 chosen-silent : (s : Config) (traces : List (List Entry)) (n channel cycle : ℕ) → channel < s.channels → Over s traces n → IfSome (chosen s traces n channel) (IsSilent s channel cycle)
 unfolding messages_of
 chosen-silent s traces n channel cycle l h =
@@ -207,7 +203,7 @@ still-none history channel n u mail None e = ap (λ x. queued_requests x mail u)
 still-none history channel n u mail (Some command) e =
     queued_requests-command history (record { cycle = n; channel = channel; command = command }) mail u ∙ ap (unserved_by command) e
 
--- one cycle more
+-- a run that is over is over one cycle later
 over-next : (s : Config) (traces : List (List Entry)) (n : ℕ) → Over s traces n → Over s traces (suc n)
 unfolding run
 over-next s traces n h =
@@ -276,7 +272,7 @@ flight-empty s traces n h =
     filter-none p [] k = refl
     filter-none p (m ∷ ms) k = cond-false _ _ _ k.0 ∙ filter-none p ms k.1
 
--- and only there
+-- where nothing is in flight, each message has arrived
 flight-arrived : (s : Config) (traces : List (List Entry)) (n : ℕ) → in_flight s traces (run s traces n) ≡ [] → Each (λ (m : Message). m.arrival < n) (messages s traces (run s traces n))
 flight-arrived s traces n e =
     let sent = messages s traces (run s traces n) in

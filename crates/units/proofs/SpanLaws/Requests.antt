@@ -80,7 +80,7 @@ differ-once (m ∷ ms) h = by m.payload refl (differ-once ms (λ core entry. let
     by (payload.Reply entry) e rest = rest
     by (payload.Credit access entry) e rest = rest
 
--- those that arrive at a channel are
+-- the requests that arrive at a channel are of different entries
 pub mail-differ : (s : Config) (traces : List (List Entry)) (n channel cycle : ℕ) → Differ (requests_of (mail_before s traces n (Channel channel) cycle))
 mail-differ s traces n channel cycle =
     let all = inbox s traces (run s traces n) (Channel channel) in
@@ -109,7 +109,7 @@ named-none : (new : List Request) → Each (λ (r : Request). is_of None r ≡ f
 named-none [] = tt
 named-none (r ∷ rs) = (refl, named-none rs)
 
--- one that is named by a request of a queue stands in the name of none that are others than those of the queue
+-- a command that is named by a request of a queue stands in the name of no request that is not in the queue
 names-other : (queue new : List Request) → Each (AreOther new) queue → (o : Option Source) → IfSome o (λ source. (r : Request) × Contains queue r × (source ≡ source_of r))
     → Each (λ (r : Request). is_of o r ≡ false) new
 names-other queue new h None k = named-none new

@@ -56,7 +56,7 @@ none-part s traces n a b from until u k l h =
     none-stronger (λ (m : Message). leb from m.arrival && ltb m.arrival until) (λ (m : Message). leb a m.arrival && ltb m.arrival b) (inbox s traces (run s traces n) u)
     (λ m e. inner a b from until m.arrival k l e) h
 
--- and the mail of a span that begins with it is that of the rest
+-- where nothing arrives in the first part of a span, the mail of the span is that of the rest
 pub none-first : (s : Config) (traces : List (List Entry)) (n at now until : ℕ) (u : MachineUnit) → at ≤ now → now ≤ until → mail_in s traces n u at now ≡ []
     → mail_in s traces n u at until ≡ mail_in s traces n u now until
 none-first s traces n at now until u k l h =

@@ -1,10 +1,11 @@
 -- The end of a run, which may lie within a span.
---     RunsStayOver s traces from until      what is over stays so
---     OverIsSeen s traces now      a run is over where all is retired, nothing is in flight and no request is left in a queue
---     CyclesAreCounted s traces limit n      a run has n cycles where it is over before cycle n and not before the one before it
+--     RunsStayOver s traces from until      a run that is over stays over
+--     OverIsSeen s traces now      a run is over where all is retired, nothing is in flight and no request waits
+--     CyclesAreCounted s traces limit n      a run has n cycles where it ends before cycle n, and no sooner
 --     RetiresByWidth s traces from until      a core retires no more than its width in a cycle
 --     FlightStays s traces from until      a message in flight stays in flight up to its arrival
---     LastsForTrace, LastsForFlight s traces from until      a run is not over before a cycle by which a core cannot retire its trace, or a message is still to arrive
+--     LastsForTrace s traces from until      a run lasts until each core can have retired its trace
+--     LastsForFlight s traces from until      a run lasts until each message has arrived
 use Rattle.std.specs.Prelude.{◌≡◌, ◌↔◌, ℕ, ◌+◌, ◌-◌, ◌*◌, ◌<◌, ◌≤◌, Bool, true, false, List, [], length, count_by, Any}
 use Rattle.sim_base.specs.declared.config.Config.{Config}
 use Rattle.sim_base.specs.Counts.{in_flight}
@@ -21,7 +22,8 @@ use Rattle.units.specs.SpanLaws.Mail.{mail_before}
 -- a run that is over before a cycle is over before each later one: nothing retires, no request is served, and nothing
 -- is sent
 abbrev pub RunsStayOver : Config → List (List Entry) → ℕ → ℕ → Type 0
-RunsStayOver s traces from until = from ≤ until → is_over s traces (run s traces from) ≡ true → is_over s traces (run s traces until) ≡ true
+RunsStayOver s traces from until =
+    from ≤ until → is_over s traces (run s traces from) ≡ true → is_over s traces (run s traces until) ≡ true
 
 -- a run is over before a cycle where each core has retired its trace, nothing is in flight, and no request is left in
 -- a queue
@@ -36,13 +38,15 @@ OverIsSeen s traces now =
 -- cycles.
 abbrev pub CyclesAreCounted : Config → List (List Entry) → ℕ → ℕ → Type 0
 CyclesAreCounted s traces limit n =
-    n ≤ limit → ((last : ℕ) → last + 1 ≡ n → ends_before s traces last ≡ false) → (n < limit → ends_before s traces n ≡ true) → cycles_run s traces limit ≡ n
+    n ≤ limit → ((last : ℕ) → last + 1 ≡ n → ends_before s traces last ≡ false)
+    → (n < limit → ends_before s traces n ≡ true) → cycles_run s traces limit ≡ n
 
 -- in each cycle a core retires no more entries than its width
 abbrev pub RetiresByWidth : Config → List (List Entry) → ℕ → ℕ → Type 0
 RetiresByWidth s traces from until =
     (core : ℕ) → core < s.cores → from ≤ until
-    → retired_before (core_steps_of s traces until core) ≤ retired_before (core_steps_of s traces from core) + s.width * (until - from)
+    → retired_before (core_steps_of s traces until core) ≤ retired_before (core_steps_of s traces from core)
+    + s.width * (until - from)
 
 -- Of what is in flight at a cycle, all that arrives at a later one or after it is in flight there too: of any kind of
 -- such messages there are then no fewer.
@@ -58,7 +62,8 @@ LastsForTrace s traces from until =
     → retired_before (core_steps_of s traces from core) + s.width * (until - from) < length (trace_of traces core)
     → is_over s traces (run s traces until) ≡ false
 
--- nor before a cycle up to which a message is in flight
+-- a run is not over before a cycle up to which a message is in flight
 abbrev pub LastsForFlight : Config → List (List Entry) → ℕ → ℕ → Type 0
 LastsForFlight s traces from until =
-    from ≤ until → Any (λ m. until ≤ m.arrival) (in_flight s traces (run s traces from)) → is_over s traces (run s traces until) ≡ false
+    from ≤ until → Any (λ m. until ≤ m.arrival) (in_flight s traces (run s traces from))
+    → is_over s traces (run s traces until) ≡ false

@@ -14,4 +14,5 @@ has_unit units unit = list_any (λ u. is_unit unit u) units
 
 -- what stays of some messages when what is due at these units in a span is taken out, unit by unit
 abbrev pub left_after : ℕ → ℕ → ℕ → List MachineUnit → List Message → List Message
-left_after channels from until units ms = fold (λ rest unit. filter (λ m. not (is_due channels unit from until m)) rest) ms units
+left_after channels from until units ms =
+    fold (λ rest unit. filter (λ m. not (is_due channels unit from until m)) rest) ms units

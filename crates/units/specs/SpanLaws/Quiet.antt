@@ -1,6 +1,6 @@
 -- A unit that does nothing in a span, or sends nothing.
---     RestsAlone s traces from until unit      it would do nothing, if nothing arrived at it
---     IsSilent s traces from until unit      it would send nothing, if nothing arrived at it
+--     RestsAlone s traces from until unit      a unit would do nothing in a span, if nothing arrived at it
+--     IsSilent s traces from until unit      a unit would send nothing in a span, if nothing arrived at it
 use Rattle.std.specs.Prelude.{◌≡◌, ℕ, ◌+◌, ◌-◌, ◌≤◌, List}
 use Rattle.sim_base.specs.declared.config.Config.{Config}
 use Rattle.sim_base.specs.History.{trace_of, core_messages, channel_messages}
@@ -16,18 +16,24 @@ use Rattle.units.specs.SpanLaws.Mail.{mail_before}
 
 -- from what a unit did before a span, and what arrived at it, it would do nothing in the span, if nothing arrived in it
 abbrev pub RestsAlone : Config → List (List Entry) → ℕ → ℕ → MachineUnit → Type 0
-RestsAlone s traces from until (Core core) = Rests s core (trace_of traces core) (core_steps_of s traces from core) (mail_before s traces from (Core core) from) (until - from)
-RestsAlone s traces from until (Channel channel) = IsIdle s channel (channel_steps_of s traces from channel) (mail_before s traces from (Channel channel) from) (until - from)
+RestsAlone s traces from until (Core core) =
+    Rests s core (trace_of traces core) (core_steps_of s traces from core) (mail_before s traces from (Core core) from)
+    (until - from)
+RestsAlone s traces from until (Channel channel) =
+    IsIdle s channel (channel_steps_of s traces from channel) (mail_before s traces from (Channel channel) from)
+    (until - from)
 
--- Alone, from what it did before a cycle and what arrived at it, a unit would send nothing before another, if nothing
+-- Alone, from what it did before `from` and what arrived at it, a unit would send nothing before `until`, if nothing
 -- arrived. It may retire and issue, or issue commands other than column commands: a unit that rests is silent, but not
 -- the other way round.
 abbrev pub IsSilent : Config → List (List Entry) → ℕ → ℕ → MachineUnit → Type 0
 IsSilent s traces from until (Core core) =
     (n : ℕ) → from + n ≤ until
-    → core_messages s core (trace_of traces core) (core_run s core (trace_of traces core) (core_steps_of s traces from core) (mail_before s traces from (Core core) from) n)
+    → core_messages s core (trace_of traces core)
+    (core_run s core (trace_of traces core) (core_steps_of s traces from core) (mail_before s traces from (Core core) from) n)
     ≡ core_messages s core (trace_of traces core) (core_steps_of s traces from core)
 IsSilent s traces from until (Channel channel) =
     (n : ℕ) → from + n ≤ until
-    → channel_messages s channel (channel_run s channel (channel_steps_of s traces from channel) (mail_before s traces from (Channel channel) from) n)
+    → channel_messages s channel
+    (channel_run s channel (channel_steps_of s traces from channel) (mail_before s traces from (Channel channel) from) n)
     ≡ channel_messages s channel (channel_steps_of s traces from channel)

@@ -6,7 +6,7 @@ ghost use Rattle.units.specs.Scans.{is_below, least_of};
 
 use std::simd::prelude::*;
 
-/// N words of a column, from a place on.
+/// N words of a column, from place `at` on.
 pub(crate) fn load<const N: usize>(column: &[u64], at: usize) -> Simd<u64, N>
     requires { at + N ≤ length column.now }
     ensures { result ≡ chunk at N column.now }

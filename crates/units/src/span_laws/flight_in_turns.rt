@@ -3,14 +3,15 @@
 ghost use Rattle.std.specs.Prelude.{ℕ};
 ghost use Rattle.sim_base.specs.declared.config.Config.{Config};
 ghost use Rattle.laws.specs.Everywhere.{InEachCycle, InEachTurn};
-ghost use Rattle.units.specs.SpanLaws.FlightInTurns.{FlightsMeet, ChannelsAreBrought, CoresAreBrought, ChannelsTakeTheirs, CoresTakeTheirs, LaterStays, ChannelsGoFurther, CoresGoFurther, ChannelsGoFurtherFor, CoresGoFurtherFor};
+ghost use Rattle.units.specs.SpanLaws.FlightInTurns.{FlightsMeet, HoldChannelInboxes, HoldCoreInboxes, ChannelsTakeTheirs, CoresTakeTheirs, LaterStays, ChannelsGoFurther, CoresGoFurther, ChannelsGoFurtherFor, CoresGoFurtherFor};
 
-/// Where all units stand at one cycle, what is in flight is what is in flight in the run. In turns, it brings each
-/// unit what arrives at it, and as either kind goes on, what arrives at them is gone, and what they send is added.
+/// Where all units stand at one cycle, what is in flight is what is in flight in the run. In turns, what is in flight
+/// brings each unit what arrives at it; as either kind goes on, what arrives at its units is gone, and what they send
+/// is added.
 pub fn flight_goes_in_turns()
     ensures meet { InEachCycle FlightsMeet }
-    ensures bring_channels { InEachTurn ChannelsAreBrought }
-    ensures bring_cores { InEachTurn CoresAreBrought }
+    ensures channel_inboxes { InEachTurn HoldChannelInboxes }
+    ensures core_inboxes { InEachTurn HoldCoreInboxes }
     ensures channels_take { InEachTurn ChannelsTakeTheirs }
     ensures cores_take { InEachTurn CoresTakeTheirs }
     ensures later { (s : Config) (from until : ℕ) → LaterStays s from until }

@@ -8,7 +8,7 @@ use links::latency::least_of_kind;
 use sim_base::config::Config;
 use sim_base::message::Cycle;
 
-/// The least latency over all links that carry requests, in cycles, those that have one of their own included: so far
+/// The least latency over all links that carry requests, in cycles, links with a latency of their own included: so far
 /// channels may go beyond the cycle where the cores stand.
 pub fn least_request_latency(config: &Config) -> Cycle
     ensures meets { RequestsTravelFor config.now result }
@@ -18,8 +18,8 @@ pub fn least_request_latency(config: &Config) -> Cycle
     u64::from(least_of_kind(config, 0, config.request_latency))
 }
 
-/// The least number of cycles, over all links, from a command to the arrival of a credit or a reply that comes of it:
-/// so far cores may go beyond the cycle where the channels stand.
+/// The least number of cycles, over all links, from a command to the arrival of a credit or a reply that it causes: so
+/// far cores may go beyond the cycle where the channels stand.
 pub fn least_way_back(config: &Config) -> Cycle
     ensures meets { AnswersTakeFor config.now result }
     ensures attained { AnswerTakes config.now result }

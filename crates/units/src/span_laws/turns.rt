@@ -21,8 +21,8 @@ pub fn turns_begin_and_jump()
     ensures jump { InEachTurn TurnsJump }
 {}
 
-/// A unit of a machine that is held in parts goes on as the machine does in a turn: in one of its kind it comes to the
-/// end of the turn, and in one of the other kind it stays.
+/// A unit of a machine that is held in parts goes on as the machine does in a turn: in a turn of its kind it comes to
+/// the end of the turn, and in a turn of the other kind it stays.
 pub fn units_go_in_turns()
     ensures channel_goes { InEachTurn ChannelGoes }
     ensures core_goes { InEachTurn CoreGoes }

@@ -6,9 +6,10 @@ use Rattle.std.proofs.lemmas.Result.{IfOk-weaker, IfErr-weaker, on_err_weaker, I
 use Rattle.page.specs.Document.{IsDocument}
 use Rattle.refusal.specs.Warnings.{IsWarningOf}
 use Rattle.answers.specs.Refused.{IsPageFault, HoldRunTables}
-use Rattle.answers.proofs.NamedFacts.{both_ok, ok_with, ok_so, when_ok, err_with}
+use Rattle.answers.proofs.NamedFacts.{both_ok, ok_with, ok_so, err_with}
 use Rattle.answers.proofs.PageFacts.{whole_from, unwritten_from, write_refused}
 use Rattle.answers.proofs.RequestFacts.{requests_before, texts_refused, beside_refused, right_beside}
+use Rattle.sim_base.proofs.Results.{when_ok}
 use Rattle.answers.proofs.pages.perform_page.Goals as goal
 
 pub returns-clause-done : goal.returns-clause-done

@@ -3,8 +3,9 @@ use Rattle.config_reader.proofs.Refusing.{same_fault}
 use Rattle.std.proofs.Common.{inl, inr, ◌∙◌, refl}
 use Rattle.std.proofs.lemmas.Result.{on_ok_weaker, IfErr-weaker, IfOk-from_err}
 use Rattle.answers.specs.Refused.{IsShowFault, HoldRun}
-use Rattle.answers.proofs.NamedFacts.{ok_with, when_ok, err_with, unprinted_by}
+use Rattle.answers.proofs.NamedFacts.{ok_with, err_with, unprinted_by}
 use Rattle.answers.proofs.RequestFacts.{requests_before, texts_refused, beside_refused, right_beside}
+use Rattle.sim_base.proofs.Results.{when_ok}
 use Rattle.answers.proofs.screens.perform_show.Goals as goal
 
 pub returns-clause-shown : goal.returns-clause-shown

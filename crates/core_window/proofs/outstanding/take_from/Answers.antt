@@ -1,4 +1,4 @@
--- Those before the one that is looked for move up, until it is at hand.
+-- The Reads before the one that is looked for move up, until that one is at hand.
 use Rattle.std.proofs.Common.{◌∙◌, ◌<◌, drop, length, length-set, arith}
 use Rattle.core_window.proofs.Taking.{carrying-more, carrying-last}
 use Rattle.core_window.proofs.outstanding.take_from.Goals as goal

@@ -1,4 +1,4 @@
--- Those before the one at hand moved up by a place.
+-- The Reads before the one at hand moved up by a place.
 use Rattle.std.proofs.Common.{◌≡◌, ◌≤◌, ◌-◌, drop, length}
 use Rattle.core_window.proofs.Taking.{IsCarrying}
 use Rattle.core_window.proofs.outstanding.take_from.Given as goal

@@ -6,8 +6,8 @@ use Rattle.sim_base.specs.History.{insert_by_age}
 use Rattle.links.specs.InFlight.{InFlight}
 use Rattle.units.specs.Flight.{sent_by}
 use Rattle.in_place.specs.Turns.{AreInTurns, all_units, all_words}
-use Rattle.units.specs.Wakes.{WaitAll, AllBrought, AreLowered, links_after}
-use Rattle.in_place.proofs.Turning.{channels-brought, channels-wait_all, channels-turned, channels-many, channel-words_many}
+use Rattle.units.specs.Wakes.{WaitAll, HoldInboxes, AreLowered, links_after}
+use Rattle.in_place.proofs.Turning.{channels-holds_inbox, channels-wait_all, channels-turned, channels-many, channel-words_many}
 use Rattle.in_place.proofs.taking_turns.channels_turn.Goals as goal
 
 pub go_on-requires-clause-within : goal.go_on-requires-clause-within
@@ -34,17 +34,17 @@ go_on-requires-clause-wait c =
     (subst (λ xs. WaitAll machine n at.channels_at at.cores_at xs (drop n (all_words kinds))) (drop_at kinds.cores.units.items units n turns.0.cores_count)
     (channels-wait_all machine at.cores_at at.channels_at (all_units kinds) (all_words kinds) c.args.traffic.now.links turns.1)))
 
-pub go_on-requires-clause-brought : goal.go_on-requires-clause-brought
-go_on-requires-clause-brought c =
+pub go_on-requires-clause-holds_inbox : goal.go_on-requires-clause-holds_inbox
+go_on-requires-clause-holds_inbox c =
     let machine = c.args.machine.now in
     let at = c.args.at in
     let kinds = c.args.kinds.now in
     let links = c.args.traffic.now.links in
     let turns = c.requires.turns in
     let many = channels-many machine at.cores_at at.channels_at kinds links turns.0 turns.1 in
-    subst (λ i. AllBrought machine i (length kinds.channels.units.items) at.channels_at at.cores_at c.args.until links) (sym turns.0.channels_first)
-    (subst (λ m. AllBrought machine machine.config.cores m at.channels_at at.cores_at c.args.until links) (sym many)
-    (channels-brought machine at.cores_at at.channels_at c.args.until (all_units kinds) (all_words kinds) links turns.1 c.requires.travels))
+    subst (λ i. HoldInboxes machine i (length kinds.channels.units.items) at.channels_at at.cores_at c.args.until links) (sym turns.0.channels_first)
+    (subst (λ m. HoldInboxes machine machine.config.cores m at.channels_at at.cores_at c.args.until links) (sym many)
+    (channels-holds_inbox machine at.cores_at at.channels_at c.args.until (all_units kinds) (all_words kinds) links turns.1 c.requires.travels))
 
 pub take_up-requires-clause-within : goal.take_up-requires-clause-within
 take_up-requires-clause-within c =
@@ -71,7 +71,7 @@ returns-clause-turns c =
     let core_words = kinds.cores.words.items in
     let units = kinds.channels.units.items in
     let words = kinds.channels.words.items in
-    let gone = c.in_ok-go_on.ensures in
+    let has_run = c.in_ok-go_on.ensures in
     let moved = c.go_on.new.range in
     let sent = c.go_on.new.traffic.lists.sent.items in
     let up = c.in_ok-take_up.ensures in
@@ -81,21 +81,21 @@ returns-clause-turns c =
     let is_lowered : (with_items kinds.cores.words lowered).items ≡ lowered = with_items_is kinds.cores.words lowered count in (
       record {
         cores_first = by_kind.cores_first;
-        channels_first = gone.first ∙ by_kind.channels_first;
+        channels_first = has_run.first ∙ by_kind.channels_first;
         cores_count = by_kind.cores_count;
         core_words = ap length is_lowered ∙ count ∙ kinds.cores.words.ok.0 ∙ by_kind.core_words;
       },
       subst (λ ws. AreInTurns machine at.cores_at until (core_units ++ moved.units.items) (ws ++ moved.words.items) c.take_up.new.links) (sym is_lowered)
           (subst (λ xs. AreInTurns machine at.cores_at until (xs ++ moved.units.items) (lowered ++ moved.words.items) c.take_up.new.links) (take_at core_units units n by_kind.cores_count)
           (channels-turned machine at.cores_at at.channels_at until (all_units kinds) moved.units.items (all_words kinds) lowered moved.words.items links c.take_up.new.links sent r.turns.1 r.order r.travels
-          (gone.count ∙ ap length (sym (drop_at core_units units n by_kind.cores_count)))
-          (gone.words ∙ ap length (sym (drop_at core_words words n by_kind.core_words)))
-          (subst (λ i. WaitAll machine i until at.cores_at moved.units.items moved.words.items) (gone.first ∙ by_kind.channels_first) gone.wait)
-          (gone.sent ∙ ap₂ (λ i m. sent_by machine at.channels_at until i m) by_kind.channels_first many)
+          (has_run.count ∙ ap length (sym (drop_at core_units units n by_kind.cores_count)))
+          (has_run.words ∙ ap length (sym (drop_at core_words words n by_kind.core_words)))
+          (subst (λ i. WaitAll machine i until at.cores_at moved.units.items moved.words.items) (has_run.first ∙ by_kind.channels_first) has_run.wait)
+          (has_run.sent ∙ ap₂ (λ i m. sent_by machine at.channels_at until i m) by_kind.channels_first many)
           (subst (λ ms. AreLowered s 0 ms (take n (all_words kinds)) lowered) c.deref_mut-2.ensures.value
           (subst (λ ws. AreLowered s 0 c.deref_mut-2.result.now ws lowered) (c.deref_mut.ensures.value ∙ sym (take_at core_words words n by_kind.core_words))
           (subst (λ i. AreLowered s i c.deref_mut-2.result.now c.deref_mut.result.now lowered) by_kind.cores_first up.lowered)))
           (up.links
           ∙ ap₂ {C = InFlight} (λ (x : InFlight) ms. record x { messages = fold insert_by_age x.messages ms })
-          (gone.links ∙ ap₂ {C = InFlight} (λ i m. links_after s at.channels_at until i m links) by_kind.channels_first many) c.deref_mut-2.ensures.value))),
+          (has_run.links ∙ ap₂ {C = InFlight} (λ i m. links_after s at.channels_at until i m links) by_kind.channels_first many) c.deref_mut-2.ensures.value))),
     )

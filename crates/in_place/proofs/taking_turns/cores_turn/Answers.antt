@@ -6,8 +6,8 @@ use Rattle.sim_base.specs.History.{insert_by_age}
 use Rattle.links.specs.InFlight.{InFlight}
 use Rattle.units.specs.Flight.{sent_by}
 use Rattle.in_place.specs.Turns.{AreInTurns, all_units, all_words}
-use Rattle.units.specs.Wakes.{WaitAll, AllBrought, AreLowered, links_after}
-use Rattle.in_place.proofs.Turning.{cores-brought, cores-wait_all, cores-turned, channel-words_many}
+use Rattle.units.specs.Wakes.{WaitAll, HoldInboxes, AreLowered, links_after}
+use Rattle.in_place.proofs.Turning.{cores-holds_inbox, cores-wait_all, cores-turned, channel-words_many}
 use Rattle.in_place.proofs.taking_turns.cores_turn.Goals as goal
 
 pub go_on-requires-clause-within : goal.go_on-requires-clause-within
@@ -34,16 +34,16 @@ go_on-requires-clause-wait c =
     (subst (λ xs. WaitAll machine 0 at.cores_at at.channels_at xs (take n (all_words kinds))) (take_at units kinds.channels.units.items n turns.0.cores_count)
     (cores-wait_all machine at.cores_at at.channels_at (all_units kinds) (all_words kinds) c.args.traffic.now.links turns.1)))
 
-pub go_on-requires-clause-brought : goal.go_on-requires-clause-brought
-go_on-requires-clause-brought c =
+pub go_on-requires-clause-holds_inbox : goal.go_on-requires-clause-holds_inbox
+go_on-requires-clause-holds_inbox c =
     let machine = c.args.machine.now in
     let at = c.args.at in
     let kinds = c.args.kinds.now in
     let links = c.args.traffic.now.links in
     let turns = c.requires.turns in
-    subst (λ i. AllBrought machine i (length kinds.cores.units.items) at.cores_at at.channels_at c.args.until links) (sym turns.0.cores_first)
-    (subst (λ m. AllBrought machine 0 m at.cores_at at.channels_at c.args.until links) (sym turns.0.cores_count)
-    (cores-brought machine at.cores_at at.channels_at c.args.until (all_units kinds) (all_words kinds) links turns.1 c.requires.takes))
+    subst (λ i. HoldInboxes machine i (length kinds.cores.units.items) at.cores_at at.channels_at c.args.until links) (sym turns.0.cores_first)
+    (subst (λ m. HoldInboxes machine 0 m at.cores_at at.channels_at c.args.until links) (sym turns.0.cores_count)
+    (cores-holds_inbox machine at.cores_at at.channels_at c.args.until (all_units kinds) (all_words kinds) links turns.1 c.requires.takes))
 
 pub take_up-requires-clause-within : goal.take_up-requires-clause-within
 take_up-requires-clause-within c =
@@ -70,7 +70,7 @@ returns-clause-turns c =
     let words = kinds.cores.words.items in
     let channel_units = kinds.channels.units.items in
     let channel_words = kinds.channels.words.items in
-    let gone = c.in_ok-go_on.ensures in
+    let has_run = c.in_ok-go_on.ensures in
     let moved = c.go_on.new.range in
     let sent = c.go_on.new.traffic.lists.sent.items in
     let up = c.in_ok-take_up.ensures in
@@ -79,22 +79,22 @@ returns-clause-turns c =
     let count : length lowered ≡ kinds.channels.words.len = up.lowered.count ∙ ap length c.deref_mut.ensures.value ∙ sym kinds.channels.words.ok.0 in
     let is_lowered : (with_items kinds.channels.words lowered).items ≡ lowered = with_items_is kinds.channels.words lowered count in (
       record {
-        cores_first = gone.first ∙ by_kind.cores_first;
+        cores_first = has_run.first ∙ by_kind.cores_first;
         channels_first = by_kind.channels_first;
-        cores_count = gone.count ∙ by_kind.cores_count;
-        core_words = gone.words ∙ by_kind.core_words;
+        cores_count = has_run.count ∙ by_kind.cores_count;
+        core_words = has_run.words ∙ by_kind.core_words;
       },
       subst (λ ws. AreInTurns machine until at.channels_at (moved.units.items ++ channel_units) (moved.words.items ++ ws) c.take_up.new.links) (sym is_lowered)
           (subst (λ xs. AreInTurns machine until at.channels_at (moved.units.items ++ xs) (moved.words.items ++ lowered) c.take_up.new.links) (drop_at units channel_units n by_kind.cores_count)
           (cores-turned machine at.cores_at at.channels_at until (all_units kinds) moved.units.items (all_words kinds) lowered moved.words.items links c.take_up.new.links sent r.turns.1 r.order r.takes
-          (gone.count ∙ ap length (sym (take_at units channel_units n by_kind.cores_count)))
-          (gone.words ∙ ap length (sym (take_at words channel_words n by_kind.core_words)))
-          (subst (λ i. WaitAll machine i until at.channels_at moved.units.items moved.words.items) (gone.first ∙ by_kind.cores_first) gone.wait)
-          (gone.sent ∙ ap₂ (λ i m. sent_by machine at.cores_at until i m) by_kind.cores_first many)
+          (has_run.count ∙ ap length (sym (take_at units channel_units n by_kind.cores_count)))
+          (has_run.words ∙ ap length (sym (take_at words channel_words n by_kind.core_words)))
+          (subst (λ i. WaitAll machine i until at.channels_at moved.units.items moved.words.items) (has_run.first ∙ by_kind.cores_first) has_run.wait)
+          (has_run.sent ∙ ap₂ (λ i m. sent_by machine at.cores_at until i m) by_kind.cores_first many)
           (subst (λ ms. AreLowered s n ms (drop n (all_words kinds)) lowered) c.deref_mut-2.ensures.value
           (subst (λ ws. AreLowered s n c.deref_mut-2.result.now ws lowered) (c.deref_mut.ensures.value ∙ sym (drop_at words channel_words n by_kind.core_words))
           (subst (λ i. AreLowered s i c.deref_mut-2.result.now c.deref_mut.result.now lowered) by_kind.channels_first up.lowered)))
           (up.links
           ∙ ap₂ {C = InFlight} (λ (x : InFlight) ms. record x { messages = fold insert_by_age x.messages ms })
-          (gone.links ∙ ap₂ {C = InFlight} (λ i m. links_after s at.cores_at until i m links) by_kind.cores_first many) c.deref_mut-2.ensures.value))),
+          (has_run.links ∙ ap₂ {C = InFlight} (λ i m. links_after s at.cores_at until i m links) by_kind.cores_first many) c.deref_mut-2.ensures.value))),
     )

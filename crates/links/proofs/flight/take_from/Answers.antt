@@ -1,14 +1,9 @@
-use Rattle.std.proofs.Common.{◌<◌, length, Result, Ok, Err, sym, ap, ◌∙◌, arith}
-use Rattle.std.specs.declared.alloc.AllocError.{AllocError}
-use Rattle.std.specs.Result.{OnErr}
+use Rattle.std.proofs.Common.{◌<◌, length, sym, ap, ◌∙◌, arith}
 use Rattle.std.specs.Prelude.{filter}
 use Rattle.links.specs.Rings.{arrives_later}
 use Rattle.links.proofs.Room.{items_at, taken_out, kept_at}
+use Rattle.sim_base.proofs.Results.{on_err}
 use Rattle.links.proofs.flight.take_from.Goals as goal
-
-on_err : (P : Type 0) (r : Result (Unit {0}) AllocError) → P → OnErr r P
-on_err P (Ok x) h = tt
-on_err P (Err x) h = h
 
 pub returns-in_err-take_before-clause-err : goal.returns-in_err-take_before-clause-err
 returns-in_err-take_before-clause-err c = on_err _ _ (kept_at _ _ _ _ c.index_mut.ensures.value c.in_err-take_before.ensures.err)

@@ -1,14 +1,9 @@
-use Rattle.std.proofs.Common.{Result, Ok, Err, refl, ap, ◌∙◌}
-use Rattle.std.specs.declared.alloc.AllocError.{AllocError}
+use Rattle.std.proofs.Common.{refl, ap, ◌∙◌}
 use Rattle.std.specs.Prelude.{fold}
-use Rattle.std.specs.Result.{OnErr}
 use Rattle.sim_base.specs.History.{by_age, insert_by_age}
 use Rattle.links.specs.Rings.{messages_in}
+use Rattle.sim_base.proofs.Results.{on_err}
 use Rattle.links.proofs.flight.take_up.Goals as goal
-
-on_err : (P : Type 0) (r : Result (Unit {0}) AllocError) → P → OnErr r P
-on_err P (Ok x) h = tt
-on_err P (Err x) h = h
 
 pub put_all-requires-clause-rings : goal.put_all-requires-clause-rings
 put_all-requires-clause-rings c = c.in_ok-make_room_for.ensures.grows.rings c.args.channels 0 c.requires.rings

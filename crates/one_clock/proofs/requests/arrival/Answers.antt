@@ -2,7 +2,7 @@ use Rattle.std.proofs.Common.{rules, ◌≡◌, ◌+◌, ◌<◌, length, get_or
 use Rattle.sim_base.specs.Config.{latency}
 use Rattle.sim_base.specs.Counts.{issue_cycle}
 use Rattle.sim_base.specs.Machine.{run}
-use Rattle.sim_base.proofs.Spans.{length-run}
+use Rattle.sim_base.proofs.Spans.{length_run}
 use Rattle.plain_steps.specs.Plain.{CoreView, core_view}
 use Rattle.statistics.proofs.Replies.{length-steps_of_core}
 use Rattle.one_clock.proofs.Units.{at_unit_of, length_units}
@@ -18,7 +18,7 @@ cycle_of_issue-requires c =
     let inside : core < s.cores = omega (arith, many, c.if-from-cores.false, c.from.ensures) in
     let past = c.index-cores-from.is ∙ ap (λ i. get_or c.args.cores.now i c.index-cores-from.result) c.from-2.ensures ∙ at_unit_of c.args.cores.now view s.cores core c.index-cores-from.result c.requires.cores inside in
     let long : length c.past_steps.result.now ≡ c.args.cycle.now.number =
-    ap length (c.past_steps.ensures ∙ ap (λ (v : CoreView). v.past_steps) past) ∙ length-steps_of_core core all ∙ length-run s c.args.cycle.now.traces.now c.args.cycle.now.number in
+    ap length (c.past_steps.ensures ∙ ap (λ (v : CoreView). v.past_steps) past) ∙ length-steps_of_core core all ∙ length_run s c.args.cycle.now.traces.now c.args.cycle.now.number in
     omega (arith, long, c.args.cycle.now.early)
 
 pub returns : goal.returns

@@ -5,7 +5,7 @@ use Rattle.sim_base.specs.declared.trace.Entry.{Entry}
 use Rattle.sim_base.specs.History.{messages_at}
 use Rattle.sim_base.specs.Machine.{run, next_step}
 use Rattle.sim_base.specs.Sends.{channel_sends}
-use Rattle.sim_base.proofs.Spans.{length-run}
+use Rattle.sim_base.proofs.Spans.{length_run}
 use Rattle.sim_base.proofs.Lists.{flat_map_below-more}
 use Rattle.plain_steps.specs.Plain.{channel_step_of}
 use Rattle.plain_steps.specs.declared.scheduling.ChannelStep.{ChannelStep}
@@ -16,7 +16,7 @@ use Rattle.one_clock.proofs.sending.messages_of_channels.Goals as goal
 sends_of_step : (s : Config) (traces : List (List Entry)) (n k : ℕ) → k < s.channels
     → messages_at s k n (channel_step_of s traces (run s traces n) k).command ≡ channel_sends s (run s traces n) (next_step s traces (run s traces n)) k
 unfolding channel_sends
-sends_of_step s traces n k l = ap₂ (λ m o. messages_at s k m o) (sym (length-run s traces n)) (sym (channel_step_is s traces (run s traces n) k l))
+sends_of_step s traces n k l = ap₂ (λ m o. messages_at s k m o) (sym (length_run s traces n)) (sym (channel_step_is s traces (run s traces n) k l))
 
 pub bounds-steps-channel : goal.bounds-steps-channel
 bounds-steps-channel c = below_units _ _ _ _ c.requires.steps (omega arith)

@@ -1,5 +1,5 @@
 use Rattle.std.proofs.Common.{refl}
-use Rattle.program.proofs.DoneFacts.{done_is_not_refused, err_each, quiet_each, quiet_err, run_ok, run_each, run_err, warned_ok, warned_each, warned_err}
+use Rattle.program.proofs.DoneFacts.{done_is_not_refused, err_each, unwarned_each, unwarned_err, run_ok, run_each, run_err, warned_ok, warned_each, warned_err}
 use Rattle.program.proofs.perform.answer.Goals as goal
 
 pub returns-in-Run-clause-answered : goal.returns-in-Run-clause-answered
@@ -17,8 +17,8 @@ returns-in-Run-clause-answered g c =
 pub returns-in-Run-clause-status : goal.returns-in-Run-clause-status
 returns-in-Run-clause-status g c = rw c.run_done.ensures (run_each _ c.perform_run.result done_is_not_refused)
 
-pub returns-in-Run-clause-quiet : goal.returns-in-Run-clause-quiet
-returns-in-Run-clause-quiet g c = rw (c.run_done.ensures, c.in-Run.is) (run_each _ c.perform_run.result refl)
+pub returns-in-Run-clause-unwarned : goal.returns-in-Run-clause-unwarned
+returns-in-Run-clause-unwarned g c = rw (c.run_done.ensures, c.in-Run.is) (run_each _ c.perform_run.result refl)
 
 pub returns-in-Run-clause-refused : goal.returns-in-Run-clause-refused
 returns-in-Run-clause-refused g c =
@@ -44,21 +44,21 @@ returns-in-Page-clause-answered g c =
 pub returns-in-Page-clause-status : goal.returns-in-Page-clause-status
 returns-in-Page-clause-status g c = rw c.warned_done.ensures (warned_each _ c.perform_page.result (λ warning. done_is_not_refused))
 
-pub returns-in-Page-clause-quiet : goal.returns-in-Page-clause-quiet
-returns-in-Page-clause-quiet g c = rw (c.warned_done.ensures, c.in-Page.is) (warned_each _ c.perform_page.result (λ warning. tt))
+pub returns-in-Page-clause-unwarned : goal.returns-in-Page-clause-unwarned
+returns-in-Page-clause-unwarned g c = rw (c.warned_done.ensures, c.in-Page.is) (warned_each _ c.perform_page.result (λ warning. tt))
 
 pub returns-in-Page-clause-fault : goal.returns-in-Page-clause-fault
 returns-in-Page-clause-fault g c =
     rw (c.warned_done.ensures, c.in-Page.is) (warned_err _ c.perform_page.result (λ e why. why) c.perform_page.ensures.fault)
 
 pub returns-in-Help-clause-status : goal.returns-in-Help-clause-status
-returns-in-Help-clause-status g c = rw c.quietly_done.ensures (quiet_each _ c.print_text.result done_is_not_refused)
+returns-in-Help-clause-status g c = rw c.done_unwarned.ensures (unwarned_each _ c.print_text.result done_is_not_refused)
 
 pub returns-in-Check-clause-status : goal.returns-in-Check-clause-status
 returns-in-Check-clause-status g c = c.answer_check.ensures.status
 
-pub returns-in-Check-clause-quiet : goal.returns-in-Check-clause-quiet
-returns-in-Check-clause-quiet g c = rw c.in-Check.is c.answer_check.ensures.quiet
+pub returns-in-Check-clause-unwarned : goal.returns-in-Check-clause-unwarned
+returns-in-Check-clause-unwarned g c = rw c.in-Check.is c.answer_check.ensures.unwarned
 
 pub returns-in-Check-clause-fault : goal.returns-in-Check-clause-fault
 returns-in-Check-clause-fault g c = rw c.in-Check.is c.answer_check.ensures.fault
@@ -69,8 +69,8 @@ returns-in-Check-clause-answered g c = rw c.in-Check.is c.answer_check.ensures.a
 pub returns-in-Map-clause-status : goal.returns-in-Map-clause-status
 returns-in-Map-clause-status g c = c.answer_map.ensures.status
 
-pub returns-in-Map-clause-quiet : goal.returns-in-Map-clause-quiet
-returns-in-Map-clause-quiet g c = rw c.in-Map.is c.answer_map.ensures.quiet
+pub returns-in-Map-clause-unwarned : goal.returns-in-Map-clause-unwarned
+returns-in-Map-clause-unwarned g c = rw c.in-Map.is c.answer_map.ensures.unwarned
 
 pub returns-in-Map-clause-fault : goal.returns-in-Map-clause-fault
 returns-in-Map-clause-fault g c = rw c.in-Map.is c.answer_map.ensures.fault
@@ -81,8 +81,8 @@ returns-in-Map-clause-answered g c = rw c.in-Map.is c.answer_map.ensures.answere
 pub returns-in-Show-clause-status : goal.returns-in-Show-clause-status
 returns-in-Show-clause-status g c = c.answer_show.ensures.status
 
-pub returns-in-Show-clause-quiet : goal.returns-in-Show-clause-quiet
-returns-in-Show-clause-quiet g c = rw c.in-Show.is c.answer_show.ensures.quiet
+pub returns-in-Show-clause-unwarned : goal.returns-in-Show-clause-unwarned
+returns-in-Show-clause-unwarned g c = rw c.in-Show.is c.answer_show.ensures.unwarned
 
 pub returns-in-Show-clause-fault : goal.returns-in-Show-clause-fault
 returns-in-Show-clause-fault g c = rw c.in-Show.is c.answer_show.ensures.fault
@@ -93,8 +93,8 @@ returns-in-Show-clause-answered g c = rw c.in-Show.is c.answer_show.ensures.answ
 pub returns-in-ShowBanks-clause-status : goal.returns-in-ShowBanks-clause-status
 returns-in-ShowBanks-clause-status g c = c.answer_show_banks.ensures.status
 
-pub returns-in-ShowBanks-clause-quiet : goal.returns-in-ShowBanks-clause-quiet
-returns-in-ShowBanks-clause-quiet g c = rw c.in-ShowBanks.is c.answer_show_banks.ensures.quiet
+pub returns-in-ShowBanks-clause-unwarned : goal.returns-in-ShowBanks-clause-unwarned
+returns-in-ShowBanks-clause-unwarned g c = rw c.in-ShowBanks.is c.answer_show_banks.ensures.unwarned
 
 pub returns-in-ShowBanks-clause-fault : goal.returns-in-ShowBanks-clause-fault
 returns-in-ShowBanks-clause-fault g c = rw c.in-ShowBanks.is c.answer_show_banks.ensures.fault
@@ -105,8 +105,8 @@ returns-in-ShowBanks-clause-answered g c = rw c.in-ShowBanks.is c.answer_show_ba
 pub returns-in-Compare-clause-status : goal.returns-in-Compare-clause-status
 returns-in-Compare-clause-status g c = c.answer_compare.ensures.status
 
-pub returns-in-Compare-clause-quiet : goal.returns-in-Compare-clause-quiet
-returns-in-Compare-clause-quiet g c = rw c.in-Compare.is c.answer_compare.ensures.quiet
+pub returns-in-Compare-clause-unwarned : goal.returns-in-Compare-clause-unwarned
+returns-in-Compare-clause-unwarned g c = rw c.in-Compare.is c.answer_compare.ensures.unwarned
 
 pub returns-in-Compare-clause-fault : goal.returns-in-Compare-clause-fault
 returns-in-Compare-clause-fault g c = rw c.in-Compare.is (rw c.deref.ensures.value at c.answer_compare.ensures.fault)
@@ -136,7 +136,7 @@ pub returns-in-Page-clause-unprinted : goal.returns-in-Page-clause-unprinted
 returns-in-Page-clause-unprinted g c = err_each _ c.warned_done.result (λ e other. refl)
 
 pub returns-in-Help-clause-unprinted : goal.returns-in-Help-clause-unprinted
-returns-in-Help-clause-unprinted g c = rw c.quietly_done.ensures (quiet_err _ c.print_text.result (λ e write other. absurd (other write)) c.print_text.ensures.fault)
+returns-in-Help-clause-unprinted g c = rw c.done_unwarned.ensures (unwarned_err _ c.print_text.result (λ e write other. absurd (other write)) c.print_text.ensures.fault)
 
 pub returns-in-Check-clause-unprinted : goal.returns-in-Check-clause-unprinted
 returns-in-Check-clause-unprinted g c = c.answer_check.ensures.unprinted

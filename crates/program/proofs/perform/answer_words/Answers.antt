@@ -1,12 +1,12 @@
 use Rattle.std.proofs.Common.{inr, refl}
 use Rattle.std.proofs.lemmas.Result.{IfOk-weaker, IfErr-weaker, IfOk-from_err}
-use Rattle.program.proofs.AnswerFacts.{quiet_unless_page}
+use Rattle.program.proofs.AnswerFacts.{unwarned_unless_page}
 use Rattle.program.proofs.DoneFacts.{err_each}
 use Rattle.program.proofs.perform.answer_words.Goals as goal
 
-pub returns-clause-quiet : goal.returns-clause-quiet
-returns-clause-quiet g c =
-    IfOk-weaker c.answer.result _ _ (λ done quiet. quiet_unless_page _ c.in_ok-ask.ask done.warning c.in_ok-ask.ensures.asked quiet) c.answer.ensures.quiet
+pub returns-clause-unwarned : goal.returns-clause-unwarned
+returns-clause-unwarned g c =
+    IfOk-weaker c.answer.result _ _ (λ done unwarned. unwarned_unless_page _ c.in_ok-ask.ask done.warning c.in_ok-ask.ensures.asked unwarned) c.answer.ensures.unwarned
 
 pub returns-clause-fault : goal.returns-clause-fault
 returns-clause-fault g c =
@@ -18,8 +18,8 @@ returns-in_err-ask-clause-answered g c = IfOk-from_err c.from_residual.result _ 
 pub returns-in_err-ask-clause-status : goal.returns-in_err-ask-clause-status
 returns-in_err-ask-clause-status g c = IfOk-from_err c.from_residual.result _ c.from_residual.ensures.0
 
-pub returns-in_err-ask-clause-quiet : goal.returns-in_err-ask-clause-quiet
-returns-in_err-ask-clause-quiet g c = IfOk-from_err c.from_residual.result _ c.from_residual.ensures.0
+pub returns-in_err-ask-clause-unwarned : goal.returns-in_err-ask-clause-unwarned
+returns-in_err-ask-clause-unwarned g c = IfOk-from_err c.from_residual.result _ c.from_residual.ensures.0
 
 pub returns-clause-answered : goal.returns-clause-answered
 returns-clause-answered g c =

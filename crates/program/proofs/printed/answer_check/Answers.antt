@@ -8,8 +8,8 @@ returns-in_err-found-clause-answered g c = IfOk-from_err c.from_residual.result 
 pub returns-in_err-found-clause-status : goal.returns-in_err-found-clause-status
 returns-in_err-found-clause-status g c = IfOk-from_err c.from_residual.result _ c.from_residual.ensures.0
 
-pub returns-in_err-found-clause-quiet : goal.returns-in_err-found-clause-quiet
-returns-in_err-found-clause-quiet g c = IfOk-from_err c.from_residual.result _ c.from_residual.ensures.0
+pub returns-in_err-found-clause-unwarned : goal.returns-in_err-found-clause-unwarned
+returns-in_err-found-clause-unwarned g c = IfOk-from_err c.from_residual.result _ c.from_residual.ensures.0
 
 pub returns-in_err-found-clause-refused : goal.returns-in_err-found-clause-refused
 returns-in_err-found-clause-refused g c =

@@ -1,30 +1,30 @@
 use Rattle.std.proofs.Common.{refl}
-use Rattle.program.proofs.DoneFacts.{done_is_not_refused, quiet_ok, quiet_each, quiet_err, quiet_refused}
+use Rattle.program.proofs.DoneFacts.{done_is_not_refused, unwarned_ok, unwarned_each, unwarned_err, unwarned_refused}
 use Rattle.program.proofs.printed.answer_show_banks.Goals as goal
 
 pub returns-clause-answered : goal.returns-clause-answered
 returns-clause-answered g c =
-    rw c.quietly_done.ensures (quiet_ok _ c.perform_show_banks.result (λ h tells. record {
+    rw c.done_unwarned.ensures (unwarned_ok _ c.perform_show_banks.result (λ h tells. record {
       status_is = refl;
       shown = rw c.options_of.ensures at (h tells);
       untouched = record { same = c.perform_show_banks.ensures.same tells; unopened = c.perform_show_banks.ensures.unopened tells };
     }) c.perform_show_banks.ensures.shown)
 
 pub returns-clause-status : goal.returns-clause-status
-returns-clause-status g c = rw c.quietly_done.ensures (quiet_each _ c.perform_show_banks.result done_is_not_refused)
+returns-clause-status g c = rw c.done_unwarned.ensures (unwarned_each _ c.perform_show_banks.result done_is_not_refused)
 
-pub returns-clause-quiet : goal.returns-clause-quiet
-returns-clause-quiet g c = rw c.quietly_done.ensures (quiet_each _ c.perform_show_banks.result refl)
+pub returns-clause-unwarned : goal.returns-clause-unwarned
+returns-clause-unwarned g c = rw c.done_unwarned.ensures (unwarned_each _ c.perform_show_banks.result refl)
 
 pub returns-clause-refused : goal.returns-clause-refused
 returns-clause-refused g c =
-    rw c.quietly_done.ensures (quiet_refused _ c.perform_show_banks.result (λ e tells. record {
+    rw c.done_unwarned.ensures (unwarned_refused _ c.perform_show_banks.result (λ e tells. record {
       kept = tt;
       untouched = record { same = c.perform_show_banks.ensures.same tells; unopened = c.perform_show_banks.ensures.unopened tells };
     }))
 
 pub returns-clause-fault : goal.returns-clause-fault
-returns-clause-fault g c = rw c.quietly_done.ensures (quiet_err _ c.perform_show_banks.result (λ e h. h) c.perform_show_banks.ensures.fault)
+returns-clause-fault g c = rw c.done_unwarned.ensures (unwarned_err _ c.perform_show_banks.result (λ e h. h) c.perform_show_banks.ensures.fault)
 
 pub returns-clause-unprinted : goal.returns-clause-unprinted
-returns-clause-unprinted g c = rw c.quietly_done.ensures (quiet_err _ c.perform_show_banks.result (λ e h. h) c.perform_show_banks.ensures.unprinted)
+returns-clause-unprinted g c = rw c.done_unwarned.ensures (unwarned_err _ c.perform_show_banks.result (λ e h. h) c.perform_show_banks.ensures.unprinted)

@@ -2,8 +2,7 @@ use Rattle.std.proofs.Common.{◌++◌, inl, inr, ap, ◌∙◌}
 use Rattle.whole_files.specs.Tables.{parts}
 use Rattle.std.proofs.lemmas.Result.{on_ok_weaker, IfErr-weaker, IfOk-from_err}
 use Rattle.whole_files.proofs.Places.{written_from, left_from}
-use Rattle.answers.proofs.NamedFacts.{when_ok}
-use Rattle.program.proofs.RefusedFacts.{both_on_ok}
+use Rattle.sim_base.proofs.Results.{when_ok, both_on_ok}
 use Rattle.program.proofs.runs.perform_run.Goals as goal
 
 pub returns-clause-done : goal.returns-clause-done

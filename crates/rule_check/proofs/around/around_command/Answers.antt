@@ -5,7 +5,8 @@ use Rattle.sim_base.specs.declared.place.BankId.{BankId}
 use Rattle.sim_base.specs.declared.command.Kind.{Kind}
 use Rattle.sim_base.specs.declared.rule.Scope.{Scope}
 use Rattle.sim_base.specs.declared.rule.Scope.TheVariants.{InBank, InGroup, AcrossGroups, InRank, AcrossRanks}
-use Rattle.rule_check.specs.Kept.{latest_of, nothing, kept, number_of, group_number}
+use Rattle.rule_check.specs.Kept.{latest_of, nothing, kept, group_number}
+use Rattle.sim_base.specs.Places.{number_of_bank}
 use Rattle.rule_check.specs.Around.{latest_at, IsAround}
 use Rattle.rule_check.specs.declared.around.Around.{Around}
 use Rattle.rule_check.specs.declared.latest.Latest.{Latest}
@@ -31,7 +32,7 @@ read part l x new xs items k which own at same e =
 
 -- around a command that names a bank
 in-scope : (around : Around) (c : Channel) (rank : ℕ) (bank : BankId)
-    → ((which : Kind) → latest_of around.bank.now which ≡ option_and_then (λ (x : Bank). latest_of x.latest which) (slice_get c.banks.items (number_of bank)))
+    → ((which : Kind) → latest_of around.bank.now which ≡ option_and_then (λ (x : Bank). latest_of x.latest which) (slice_get c.banks.items (number_of_bank bank)))
     → ((which : Kind) → latest_of around.group.now which ≡ option_and_then (λ (x : Group). latest_of x.within which) (slice_get c.groups.items (group_number bank)))
     → ((which : Kind) → latest_of around.other_groups.now which ≡ option_and_then (λ (x : Group). latest_of x.across which) (slice_get c.groups.items (group_number bank)))
     → ((which : Kind) → latest_of around.rank.now which ≡ option_and_then (λ (x : Rank). latest_of x.within which) (slice_get c.ranks.items rank))
@@ -45,7 +46,7 @@ in-scope around c rank bank own group others state ranks InRank which = state wh
 in-scope around c rank bank own group others state ranks AcrossRanks which = ranks which
 
 around-bank : (around : Around) (c : Channel) (rank own_rank : ℕ) (bank : BankId) (named : Option BankId) → rank ≡ own_rank → named ≡ Some bank
-    → ((which : Kind) → latest_of around.bank.now which ≡ option_and_then (λ (x : Bank). latest_of x.latest which) (slice_get c.banks.items (number_of bank)))
+    → ((which : Kind) → latest_of around.bank.now which ≡ option_and_then (λ (x : Bank). latest_of x.latest which) (slice_get c.banks.items (number_of_bank bank)))
     → ((which : Kind) → latest_of around.group.now which ≡ option_and_then (λ (x : Group). latest_of x.within which) (slice_get c.groups.items (group_number bank)))
     → ((which : Kind) → latest_of around.other_groups.now which ≡ option_and_then (λ (x : Group). latest_of x.across which) (slice_get c.groups.items (group_number bank)))
     → ((which : Kind) → latest_of around.rank.now which ≡ option_and_then (λ (x : Rank). latest_of x.within which) (slice_get c.ranks.items rank))

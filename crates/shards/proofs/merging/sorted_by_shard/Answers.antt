@@ -51,7 +51,7 @@ loop-done-preserved c =
     let more = map-append (λ (d : JobView). d.name) at.yielded (x ∷ []) in (
       append_assoc at.yielded (x ∷ []) _ ∙ ap (λ z. at.yielded ++ z) (sym steps.0) ∙ at.invariant.0,
       let was = at.invariant.1 in
-          let gone = steps.1 in
+          let remaining = steps.1 in
           let short = ap length steps.0 in
           omega arith,
       let grown = length_push at.yielded x in omega (arith, grown, at.invariant.2),

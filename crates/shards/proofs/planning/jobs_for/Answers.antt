@@ -62,7 +62,7 @@ loop-shard-preserved c =
       order = append_assoc at.yielded (x ∷ []) _ ∙ ap (λ z. at.yielded ++ z) (sym steps.0) ∙ at.invariant.order;
       finite =
           (let was = at.invariant.finite in
-          let gone = steps.1 in
+          let remaining = steps.1 in
           let short = ap length steps.0 in
           omega arith);
       left = left-next at.yielded x c.len-index.result c.args.inbound.items at.inbound.items c.replace.new.dest (sym index) at.invariant.left;

@@ -6,8 +6,8 @@ use Rattle.units.specs.declared.machine.Machine.{Machine}
 use Rattle.shards.proofs.Phases.{sharded-up_to}
 use Rattle.shards.proofs.planning.plan.Goals as goal
 
-pub settled-requires : goal.settled-requires
-settled-requires c =
+pub stopped-requires : goal.stopped-requires
+stopped-requires c =
     let f = c.sim.inside in
     let m = arc_value f.machine in
     let h = c.sim.invariant in

@@ -1,4 +1,4 @@
--- The rows so far have so many lists, all of them empty.
+-- The rows so far have `count` lists each, all of them empty.
 use Rattle.std.proofs.Common.{◌≡◌, [], length}
 use Rattle.std.specs.Prelude.{All}
 use Rattle.sim_base.specs.declared.message.Message.{Message}

@@ -2,7 +2,7 @@
 use Rattle.std.proofs.Common.{◌+◌, length, ap, ◌∙◌, arith}
 use Rattle.std.proofs.lemmas.List.{length_push}
 use Rattle.shards.specs.Lists.{lists_of}
-use Rattle.shards.proofs.Unloading.{lists-push}
+use Rattle.shards.proofs.TakingApart.{lists-push}
 use Rattle.shards.proofs.sharded.no_row.Goals as goal
 
 pub loop-preserved : goal.loop-preserved

@@ -43,7 +43,7 @@ loop-shard-preserved c =
     ap (λ n. n + length x.value.range.units.items) (at.invariant.2 ∙ sym made.0.first_is) ∙ made.0.past_is ∙ ap (bound bounds) (sym grown) in (
       append_assoc at.yielded (x ∷ []) _ ∙ ap (λ z. at.yielded ++ z) (sym steps.0) ∙ at.invariant.0,
       let was = at.invariant.1 in
-          let gone = steps.1 in
+          let remaining = steps.1 in
           let short = ap length steps.0 in
           omega arith,
       joined.count ∙ past,

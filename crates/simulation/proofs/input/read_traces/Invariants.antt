@@ -1,11 +1,12 @@
--- The traces so far, and then those of the rest, are those of all texts, and each is what its text means. What was found
--- for the cores that are left is what they have.
+-- The traces so far, and then those of the rest, are those of all texts, and each is what its text means. What was
+-- found for the cores that are left is what they have.
 use Rattle.std.proofs.Common.{◌≡◌, ◌+◌, map, length, vec_len}
 use Rattle.std.specs.List.{AllZip, range_with_len}
 use Rattle.std.specs.Vec.Iter.{into_iter_items, into_iter_len}
 use Rattle.simulation.specs.Runs.{traces_of}
 use Rattle.simulation.specs.Traces.{IsFound}
-use Rattle.simulation.proofs.TraceLists.{AreRead, prepend, texts_from}
+use Rattle.simulation.proofs.TraceLists.{AreRead, texts_from}
+use Rattle.config_reader.proofs.TableViews.{prepend}
 use Rattle.simulation.proofs.input.read_traces.Given as goal
 
 abbrev pub invariant-loop-found : goal.invariant-loop-found

@@ -1,4 +1,4 @@
--- The run did not end before the cycle where the simulator stands, and ends there: it has so many cycles.
+-- The run did not end before the cycle where the simulator stands, and ends there: that is the number of its cycles.
 use Rattle.std.proofs.Common.{◌≡◌, ◌<◌, true, sym, ap, ◌∙◌, arith}
 use Rattle.sim_base.specs.Machine.{cycles_run}
 use Rattle.statistics.specs.Outcomes.{outcome_of}

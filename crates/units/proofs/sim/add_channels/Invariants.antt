@@ -1,4 +1,4 @@
--- So do the channels behind them.
+-- The cores, and the channels so far behind them, stand for their parts before the first cycle.
 use Rattle.std.proofs.Common.{◌≡◌, ◌+◌, length}
 use Rattle.units.specs.Parts.{StandAt}
 use Rattle.units.proofs.sim.add_channels.Given as goal

@@ -17,7 +17,7 @@ loop-part-init c =
     let traces = machine.traces.items in
     let none : 0 ≡ 0 - s.cores = omega arith in
     record {
-      gone = refl;
+      remaining = refl;
       left = search rules;
       commands_asked = c.lists_if.ensures.asked;
       served_asked = c.lists_if-2.ensures.asked;
@@ -38,17 +38,17 @@ loop-part-preserved c =
     let old = at.kept in
     let new = c.add_part.new.kept in
     let seam : at.yielded ++ x ∷ rest ≡ c.args.parts.items =
-    ap (λ z. at.yielded ++ z) (sym steps.0) ∙ at.invariant.gone ∙ c.into_iter-part-iterator.ensures.into_iter_gives.0 in
+    ap (λ z. at.yielded ++ z) (sym steps.0) ∙ at.invariant.remaining ∙ c.into_iter-part-iterator.ensures.into_iter_gives.0 in
     let long : place + length (x ∷ rest) ≡ length c.args.parts.items = sym (length-append at.yielded (x ∷ rest)) ∙ ap length seam in
     let within : place < unit_count s = omega (arith, long, c.requires.count) in
     let stands = stand-seam machine c.args.now c.args.parts.items at.yielded rest x c.requires.stand seam in
     let told = c.in_ok-add_part.ensures {u = tt} in
     let next = sym (length-push_suc at.yielded x) in
     record {
-      gone = append_assoc at.yielded (x ∷ []) _ ∙ ap (λ z. at.yielded ++ z) (sym steps.0) ∙ at.invariant.gone;
+      remaining = append_assoc at.yielded (x ∷ []) _ ∙ ap (λ z. at.yielded ++ z) (sym steps.0) ∙ at.invariant.remaining;
       left =
           let was = at.invariant.left in
-          let gone = steps.1 in
+          let remaining = steps.1 in
           let short = ap length steps.0 in
           omega arith;
       commands_asked = told.commands_asked ∙ at.invariant.commands_asked;
@@ -67,7 +67,7 @@ returns c =
     let s = machine.config in
     let traces = machine.traces.items in
     let at = c.loop-part in
-    let all = all-yielded at.yielded (into_iter_items at.part-iterator) c.args.parts.items (at.invariant.gone ∙ c.into_iter-part-iterator.ensures.into_iter_gives.0)
+    let all = all-yielded at.yielded (into_iter_items at.part-iterator) c.args.parts.items (at.invariant.remaining ∙ c.into_iter-part-iterator.ensures.into_iter_gives.0)
     (sym at.invariant.left ∙ c.in-None.ensures.steps.0) in
     let count : length at.yielded - s.cores ≡ s.channels = omega (arith, ap length all, c.requires.count) in
     record {

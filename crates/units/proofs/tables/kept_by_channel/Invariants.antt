@@ -9,7 +9,7 @@ use Rattle.units.proofs.tables.kept_by_channel.Given as goal
 
 abbrev pub invariant-loop-part : goal.invariant-loop-part
 invariant-loop-part l = record {
-  gone : l.yielded ++ into_iter_items l.part-iterator ≡ into_iter_items l.initial.part-iterator;
+  remaining : l.yielded ++ into_iter_items l.part-iterator ≡ into_iter_items l.initial.part-iterator;
   left : into_iter_len l.part-iterator ≡ length (into_iter_items l.part-iterator);
   commands_asked : is_some l.kept.commands ≡ l.fn.tables.commands;
   served_asked : is_some l.kept.served ≡ l.fn.tables.requests;

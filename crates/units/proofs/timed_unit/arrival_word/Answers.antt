@@ -1,8 +1,8 @@
 use Rattle.std.proofs.Common.{refl, ap, sym, ◌∙◌, arith}
 use Rattle.std.specs.Prelude.{filter}
 use Rattle.sim_base.specs.declared.message.Message.{Message}
-use Rattle.sim_base.specs.History.{is_unit}
-use Rattle.links.specs.InFlight.{receiver_of, arrives_within}
+use Rattle.sim_base.specs.History.{is_unit, receiver_of}
+use Rattle.links.specs.InFlight.{arrives_within}
 use Rattle.sim_base.proofs.Lists.{filter-both}
 use Rattle.units.proofs.Lowering.{none-due_after, none-first_none}
 use Rattle.units.proofs.timed_unit.arrival_word.Goals as goal

@@ -43,7 +43,7 @@ loop-unit-preserved c =
     let items = c.in_ok-push.ensures.items in (
       append_assoc at.yielded (x ∷ []) _ ∙ ap (λ z. at.yielded ++ z) (sym steps.0) ∙ at.invariant.0,
       let was = at.invariant.1 in
-          let gone = steps.1 in
+          let remaining = steps.1 in
           let short = ap length steps.0 in
           omega arith,
       let more = ap length items ∙ length-push_suc at.parts.items y in

@@ -2,7 +2,7 @@ use Rattle.std.proofs.Common.{◌+◌, ◌<◌, ◌≤◌, ℕ, length, get_or, 
 use Rattle.units.specs.Units.{unit_at}
 use Rattle.units.specs.Wakes.{WaitAll, Waits, sleeper}
 use Rattle.units.specs.declared.timed_unit.TimedUnit.{TimedUnit}
-use Rattle.units.proofs.Going.{left-brought, taken-links}
+use Rattle.units.proofs.Going.{left-holds_inbox, taken-links}
 use Rattle.units.proofs.Passing.{taken-none, taken-one, taken-all, passed-over}
 use Rattle.units.proofs.waking.go_on.Goals as goal
 
@@ -17,7 +17,7 @@ loop-place-init c =
     let next = c.next_waking-place in
     let words = c.deref.ensures.value in (
       refl,
-      passed-over machine range.first (length range.units.items) span.here span.there span.until range.units.items range.words.items sent links links 0 next.result r.order r.brought
+      passed-over machine range.first (length range.units.items) span.here span.there span.until range.units.items range.words.items sent links links 0 next.result r.order r.holds_inbox
           (taken-none machine range.first span.here span.there span.until range.units.items range.words.items sent links r.within r.words r.wait r.sent)
           next.ensures.since
           (subst (λ ws. next.result ≤ length ws) words next.ensures.within)
@@ -41,9 +41,9 @@ loop-place-preserved c =
     let next = c.next_waking-place-in-loop-place in
     let words = c.deref-in-loop-place.ensures.value in (
       at.invariant.0,
-      passed-over machine first n span.here span.there span.until (set at.range.units.items at.place unit) (set at.range.words.items at.place wake) sent old links (at.place + 1) next.result r.order r.brought
+      passed-over machine first n span.here span.there span.until (set at.range.units.items at.place unit) (set at.range.words.items at.place wake) sent old links (at.place + 1) next.result r.order r.holds_inbox
           (taken-one machine first n span.here span.there span.until at.range.units.items at.range.words.items at.traffic.lists.sent.items sent old at.traffic.links links at.place unit wake
-          (omega (arith, c.loop-place-test.true, at.range.units.ok.0)) c.in_ok-word.ensures.gone
+          (omega (arith, c.loop-place-test.true, at.range.units.ok.0)) c.in_ok-word.ensures.has_run
           (taken-links machine.config first span.here span.until at.place old at.traffic.links links taken.links_so_far c.in_ok-word.ensures.links) taken)
           next.ensures.since
           (subst (λ ws. next.result ≤ length ws) words next.ensures.within)
@@ -64,13 +64,13 @@ woken-requires-clause-waits c =
           (at.invariant.1.wait at.place unit (omega arith) (omega (arith, c.loop-place-test.true, at.range.units.ok.0)));
     }
 
-pub woken-requires-clause-brought : goal.woken-requires-clause-brought
-woken-requires-clause-brought c =
+pub woken-requires-clause-holds_inbox : goal.woken-requires-clause-holds_inbox
+woken-requires-clause-holds_inbox c =
     let at = c.loop-place in
     let taken = at.invariant.1 in
     let span = c.args.span.now in
-    left-brought c.args.machine.now c.args.range.now.first span.here span.there span.until at.place c.args.traffic.now.links at.traffic.links
-    (c.requires.brought at.place (omega (arith, c.loop-place-test.true, at.range.units.ok.0, taken.units_count))) taken.links_so_far
+    left-holds_inbox c.args.machine.now c.args.range.now.first span.here span.there span.until at.place c.args.traffic.now.links at.traffic.links
+    (c.requires.holds_inbox at.place (omega (arith, c.loop-place-test.true, at.range.units.ok.0, taken.units_count))) taken.links_so_far
 
 pub returns-clause-wait : goal.returns-clause-wait
 returns-clause-wait c =

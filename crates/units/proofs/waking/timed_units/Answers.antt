@@ -15,7 +15,7 @@ loop-part-preserved c =
     let steps = c.in-Some.ensures.steps in (
       append_assoc at.yielded (x ∷ []) _ ∙ ap (λ z. at.yielded ++ z) (sym steps.0) ∙ at.invariant.0,
       let was = at.invariant.1 in
-          let gone = steps.1 in
+          let remaining = steps.1 in
           let short = ap length steps.0 in
           omega arith,
       subst (AreTimedUnits c.args.now (at.yielded ++ x ∷ [])) (sym c.in_ok-push.ensures.items)

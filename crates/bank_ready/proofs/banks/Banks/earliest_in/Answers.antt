@@ -2,7 +2,7 @@
 use Rattle.std.proofs.Common.{◌*◌, ◌<◌, refl, ◌∙◌, arith}
 use Rattle.std.proofs.lemmas.List.{get_or_read}
 use Rattle.sim_base.specs.declared.command.Kind.TheVariants as kind
-use Rattle.bank_ready.specs.Words.{bank_at}
+use Rattle.sim_base.specs.Places.{bank_at}
 use Rattle.bank_ready.specs.Stands.{rank_count}
 use Rattle.bank_ready.proofs.Allowed.{allowed-other, allowed-act}
 use Rattle.bank_ready.proofs.Stood.{later-read}

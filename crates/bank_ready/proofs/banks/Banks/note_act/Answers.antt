@@ -3,10 +3,10 @@ use Rattle.std.proofs.Common.{◌*◌, ◌/◌, ◌∙◌, eqb, max, cond, get_o
 use Rattle.sim_base.specs.declared.command.Command.TheVariants.{Act}
 use Rattle.sim_base.specs.declared.command.Kind.TheVariants as kind
 use Rattle.sim_base.specs.declared.command.Relation.{Relation}
-use Rattle.sim_base.specs.Places.{is_bank}
+use Rattle.sim_base.specs.Places.{is_bank, bank_at}
 use Rattle.sim_base.proofs.Lists.{length-lent}
 use Rattle.bank_ready.specs.Ready.{held_until}
-use Rattle.bank_ready.specs.Words.{bank_at, relation_from, group_relation_from, rank_state_after, act_pushed, rank_raised}
+use Rattle.bank_ready.specs.Words.{relation_from, group_relation_from, rank_state_after, act_pushed, rank_raised}
 use Rattle.bank_ready.proofs.Bounds.{act_grows, act_other_rank, act_to_rd, act_to_wr, act_to_pre}
 use Rattle.bank_ready.proofs.Noting.{all-words, left-words, own_inside, at_distances, lifted, lifted-own, own-word, alone, joint, joint-own, put, window-of-act, act-tests}
 use Rattle.bank_ready.proofs.Places.{act_joint}

@@ -1,9 +1,9 @@
 use Rattle.std.proofs.Common.{sym, subst, arith}
-use Rattle.bank_ready.specs.Refreshes.{IsQuietTo}
+use Rattle.bank_ready.specs.Refreshes.{NoneIsDueTo}
 use Rattle.bank_ready.proofs.Due.{due_by_is}
 use Rattle.bank_ready.proofs.refresh.Refresh.is_due_by.Goals as goal
 
 pub returns : goal.returns
 returns c =
-    let quiet = c.self.inside.quiet_to in
-    sym (due_by_is c.args.self.now quiet c.args.cycle (omega arith) (subst (λ v. IsQuietTo v quiet) c.self.view_is c.self.invariant.is_quiet_to))
+    let none_until = c.self.inside.none_due_to in
+    sym (due_by_is c.args.self.now none_until c.args.cycle (omega arith) (subst (λ v. NoneIsDueTo v none_until) c.self.view_is c.self.invariant.none_is_due_to))

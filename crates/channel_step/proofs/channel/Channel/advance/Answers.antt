@@ -1,9 +1,9 @@
 use Rattle.std.proofs.Common.{◌≡◌, ◌-◌, ◌++◌, [], length, take, Some, None, sym, ap, ap₂, subst, ◌∙◌, arith}
 use Rattle.std.proofs.lemmas.List.{append-nil}
 use Rattle.std.proofs.lemmas.Result.{err_from_is_err_and, IfOk-from_err}
-use Rattle.sim_base.specs.History.{issued_commands, messages_at}
+use Rattle.sim_base.specs.History.{issued_commands, messages_at, issued_now}
 use Rattle.channel_step.specs.Past.{past_of}
-use Rattle.channel_step.specs.Runs.{issued_in, with_more}
+use Rattle.channel_step.specs.Runs.{with_more}
 use Rattle.channel_step.proofs.Running.{with_more-none}
 use Rattle.std.specs.Prelude.{replicate, is_err}
 use Rattle.queue.specs.View.{QueueView}
@@ -146,10 +146,10 @@ returns-in_ok-perform-in-Some-clause-done c s channel steps mail stands at f =
     ap₂ (λ x (q : QueueView). command_of s x q.log c.in-Some.choice) (idle-issued channel steps idle) (sym same) ∙ i.needed in
     let after = (c.in_ok-perform-in-Some.ensures {u = tt}) (past_of s channel then there) k i.command needed i.is_next.command_is in
     record {
-      issued = issued_in channel c.in-Some.cycle (Some i.command);
+      issued = issued_now channel c.in-Some.cycle (Some i.command);
       sent = messages_at s channel c.in-Some.cycle (Some i.command);
       has_run = acts c.wait.new.self c.perform.new.self (past_of s channel steps mail) c.args.inbox.now c.args.cycles.start c.args.cycles.end n c.next_arrival-end.result c.in-Some.cycle i.command g i.is_next k after.stands;
-      commands_are = after.commands_are ∙ ap (λ t. with_more c.args.commands.now (issued_in channel t (Some i.command))) len;
+      commands_are = after.commands_are ∙ ap (λ t. with_more c.args.commands.now (issued_now channel t (Some i.command))) len;
       messages_are = after.messages_are ∙ ap (λ t. c.args.messages.now.items ++ messages_at s channel t (Some i.command)) len;
     }
 

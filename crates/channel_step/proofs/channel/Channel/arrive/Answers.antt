@@ -8,7 +8,7 @@ use Rattle.queue.specs.declared.request_log.Arrived.{Arrived}
 use Rattle.queue.specs.Log.{all_requests, LogView}
 use Rattle.queue.specs.Columns.{bank_number}
 use Rattle.queue.specs.View.{QueueView}
-use Rattle.queue.specs.Candidates.{bank_at}
+use Rattle.sim_base.specs.Places.{bank_at}
 use Rattle.queue.specs.Stands.{bank_count, StandsFor as CandidatesStandFor}
 use Rattle.channel_step.specs.FrFcfs.Requests.{IsInBanks}
 use Rattle.channel_step.specs.Past.{requests_of, past_of}

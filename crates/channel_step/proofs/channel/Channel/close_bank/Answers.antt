@@ -1,5 +1,5 @@
 use Rattle.std.proofs.Common.{◌≡◌, ◌<◌, ℕ, false, get_or, Option, Some, None, sym, ap, subst, ◌∙◌}
-use Rattle.sim_base.specs.Places.{bank_in}
+use Rattle.sim_base.specs.Places.{bank_in, bank_at, number_of_bank}
 use Rattle.sim_base.specs.Rules.{open_row}
 use Rattle.sim_base.specs.Scheduling.{source_of}
 use Rattle.sim_base.specs.declared.place.BankId.{BankId}
@@ -7,7 +7,6 @@ use Rattle.sim_base.specs.declared.command.Command.{Command}
 use Rattle.sim_base.specs.declared.command.Command.TheVariants.{Pre}
 use Rattle.queue.specs.declared.request_log.Arrived.{Arrived}
 use Rattle.queue.specs.Log.{absent, LogView}
-use Rattle.queue.specs.Candidates.{bank_at, number_of}
 use Rattle.queue.specs.Stands.{bank_count, with_row, StandsFor as CandidatesStandFor}
 use Rattle.channel_step.specs.Past.{commands_after}
 use Rattle.channel_step.specs.Queued.{request_at}
@@ -21,7 +20,7 @@ closed-requires c =
     let x = c.args.self.now in
     let read : get_or c.log-2.result.now c.args.place absent ≡ get_or x.queue.log c.args.place absent =
     ap (λ l. get_or l c.args.place absent) (c.log-2.ensures.log ∙ ap (λ (v : LogView). v.log) c.log.ensures) in
-    subst (λ (b : BankId). number_of b < bank_count x.bank_candidates) (sym (c.bank_id-bank.ensures ∙ ap (λ (a : Arrived). bank_in a.request.place) read))
+    subst (λ (b : BankId). number_of_bank b < bank_count x.bank_candidates) (sym (c.bank_id-bank.ensures ∙ ap (λ (a : Arrived). bank_in a.request.place) read))
     (placed-among x p.past c.args.place p.is_in p.within).number
 
 pub returns-clause-readied : goal.returns-clause-readied
@@ -36,7 +35,7 @@ returns-clause-readied c past h chosen =
     let source : c.source.result ≡ source_of r = c.source.ensures ∙ ap (λ (a : Arrived). source_of a.request) read in
     let command : Pre c.bank_id-bank.result c.source.result ≡ Pre (bank_in r.place) (source_of r) = λ i. Pre (bank i) (source i) in
     let stands =
-    subst (λ (b : BankId). CandidatesStandFor c.closed.new.self x.queue.log (with_row (number_of b) None rows)) bank
+    subst (λ (b : BankId). CandidatesStandFor c.closed.new.self x.queue.log (with_row (number_of_bank b) None rows)) bank
     (c.closed.ensures.stands x.queue.log rows h.candidates_stand) in
     subst (λ (issued : Command). IsReadied (record x { bank_candidates = c.closed.new.self }) past issued false) (sym command)
     (closed-readied x past place c.closed.new.self h c.requires.within (ap Some (sym command) ∙ chosen) c.closed.ensures.banks stands)

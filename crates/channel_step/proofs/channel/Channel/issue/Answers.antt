@@ -1,7 +1,7 @@
 use Rattle.std.proofs.Common.{[], ◌∷◌, ◌++◌, Some, refl, sym, subst}
 use Rattle.channel_step.specs.Past.{commands_after}
 use Rattle.channel_step.specs.Channels.{StandsFor}
-use Rattle.channel_step.specs.Readied.{row_of}
+use Rattle.channel_step.specs.Readied.{as_issued}
 use Rattle.channel_step.specs.declared.channel.Channel.{Channel}
 use Rattle.channel_step.proofs.Issuing.{issued-before, command-rank, command-owed, counted-fits, readied-drains, issued-stands}
 use Rattle.channel_step.proofs.channel.Channel.issue.Goals as goal
@@ -24,7 +24,7 @@ pub returns-clause-stands : goal.returns-clause-stands
 returns-clause-stands c past h seen =
     let x = c.args.self.now in
     let history = commands_after past in
-    let row = row_of past.channel x.cycle c.args.command in
+    let row = as_issued past.channel x.cycle c.args.command in
     subst (λ (z : Channel). StandsFor z past.config past.channel (past.steps ++ Some c.args.command ∷ []) past.mail) (sym c.count.ensures)
     (issued-stands x past c.args.command c.args.hit c.args.seen c.note.new.self c.note_refresh.new.refresh h seen
     (c.note.ensures.stands past.config history past.channel h.banks_stand (issued-before past.channel x.cycle past.steps (sym h.cycle_is)))

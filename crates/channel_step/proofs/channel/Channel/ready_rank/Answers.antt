@@ -1,6 +1,6 @@
 use Rattle.std.proofs.Common.{◌≡◌, ℕ, false, Option, Some, sym, ap, subst, ◌∙◌}
 use Rattle.sim_base.specs.Rules.{open_row}
-use Rattle.queue.specs.Candidates.{bank_at}
+use Rattle.sim_base.specs.Places.{bank_at}
 use Rattle.channel_step.specs.Past.{commands_after}
 use Rattle.channel_step.specs.Readied.{IsReadied}
 use Rattle.channel_step.proofs.Chosen.{refresh-cases}

@@ -40,8 +40,8 @@ loop-now-preserved c =
           (run-fit l.self (past_of s channel steps mail) inbox c.args.cycles.start l.now c.args.cycles.end l.arrived h.issued h.sent h.has_run)),
     )
 
-pub foresee-requires : goal.foresee-requires
-foresee-requires c =
+pub set_next_command-requires : goal.set_next_command-requires
+set_next_command-requires c =
     let p = c.requires.can_run in
     let l = c.loop-now in
     let end : l.now ≡ c.args.cycles.end = omega (arith, l.invariant.2) in
@@ -66,7 +66,7 @@ returns c s channel steps mail stands at f =
       issued = h.issued;
       sent = h.sent;
       stands =
-          c.foresee.ensures s channel (channel_run s channel steps (mail ++ c.args.inbox.now) (c.args.cycles.end - c.args.cycles.start)) (mail ++ c.args.inbox.now)
+          c.set_next_command.ensures s channel (channel_run s channel steps (mail ++ c.args.inbox.now) (c.args.cycles.end - c.args.cycles.start)) (mail ++ c.args.inbox.now)
           (run-ends l.self (past_of s channel steps mail) c.args.inbox.now c.args.cycles.start c.args.cycles.end l.arrived h.issued h.sent h.has_run)
           (run-length s channel steps (mail ++ c.args.inbox.now) c.args.cycles.start c.args.cycles.end at c.requires.span);
       commands_are = h.has_run.commands_are;

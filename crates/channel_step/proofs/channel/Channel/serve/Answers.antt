@@ -9,7 +9,7 @@ use Rattle.queue.specs.Log.{absent, served_at, eligible_column, LogView}
 use Rattle.queue.specs.Columns.{bank_number}
 use Rattle.queue.proofs.Places.{all_served}
 use Rattle.queue.specs.View.{QueueView}
-use Rattle.queue.specs.Candidates.{bank_at}
+use Rattle.sim_base.specs.Places.{bank_at}
 use Rattle.queue.specs.Stands.{bank_count, StandsFor as CandidatesStandFor}
 use Rattle.channel_step.specs.FrFcfs.Requests.{IsInBanks}
 use Rattle.channel_step.specs.Past.{commands_after}

@@ -3,7 +3,7 @@ use Rattle.std.proofs.Common.{refl, sym, ap, subst, ◌∙◌}
 use Rattle.std.proofs.lemmas.Bool.{true≢false, not-true}
 use Rattle.sim_base.specs.Rules.{open_row, kind_of}
 use Rattle.sim_base.specs.Scheduling.{needed, needed_at}
-use Rattle.queue.specs.Candidates.{bank_at}
+use Rattle.sim_base.specs.Places.{bank_at}
 use Rattle.bank_ready.specs.Stands.{rank_count}
 use Rattle.channel_step.specs.FrFcfs.Offers.{IsReadyFrom}
 use Rattle.channel_step.proofs.FrFcfs.Staying.{after_ready}

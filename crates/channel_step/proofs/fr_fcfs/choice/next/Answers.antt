@@ -5,7 +5,7 @@ use Rattle.channel_step.specs.FrFcfs.Requests.{candidates_of}
 use Rattle.bank_ready.specs.Refreshes.{lowest_owed}
 use Rattle.channel_step.specs.FrFcfs.Choices.{choice_in, command_of}
 use Rattle.channel_step.specs.FrFcfs.Cycles.{IsNext}
-use Rattle.channel_step.proofs.FrFcfs.Waking.{chosen_from, chosen_start, refreshes_more, next_quiet}
+use Rattle.channel_step.proofs.FrFcfs.Waking.{chosen_from, chosen_start, refreshes_more, next_none_issued}
 use Rattle.channel_step.proofs.fr_fcfs.choice.next.Goals as goal
 
 pub loop-rank-init : goal.loop-rank-init
@@ -48,5 +48,5 @@ returns-then-not-is_due_by-clause-next c s history stand =
     let cycle = c.in-Some.cycle in
     let none : is_some (lowest_owed c.args.parts.now.refresh.now cycle) ≡ false = sym c.is_due_by.ensures ∙ c.if-not-is_due_by.true in
     subst (IsNext (choice_in s history c.args.parts.now.queue.now) needs c.args.now) (sym c.in-Some.is)
-    (next_quiet s history requests c.args.parts.now.refresh.now c.args.now cycle (needs c.in-Some.field-0-1) stand.refreshes_stand none
+    (next_none_issued s history requests c.args.parts.now.refresh.now c.args.now cycle (needs c.in-Some.field-0-1) stand.refreshes_stand none
     (c.in-Some.ensures.next s history stand.banks_stand stand.candidates_stand stand.high_is))

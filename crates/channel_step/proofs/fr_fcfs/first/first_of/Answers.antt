@@ -1,7 +1,7 @@
 -- The offers of all banks, from none on.
 use Rattle.std.proofs.Common.{◌≡◌, ap, ◌∙◌, ◌<◌, ◌≤◌, sym, subst, refl, Some, None, length, arith}
 use Rattle.queue.specs.Candidates.{first_place}
-use Rattle.channel_step.specs.FrFcfs.Offers.{no_offer, hits_now, rows_now, IsBestSoFar}
+use Rattle.channel_step.specs.FrFcfs.Offers.{no_offer, hits_now, row_requests_now, IsBestSoFar}
 use Rattle.channel_step.proofs.FrFcfs.SoFar.{none_so_far, found, none_found}
 use Rattle.channel_step.proofs.FrFcfs.Below.{first_ready_is}
 use Rattle.channel_step.proofs.fr_fcfs.first.first_of.Goals as goal
@@ -17,7 +17,7 @@ returns-then-best-room-clause-first c s history banks bank_candidates going_are 
     subst (λ room. IsBestSoFar (length log) c.args.now (λ cycle. None) (λ cycle. None) (no_offer room)) (sym long)
     (none_so_far (length log) c.args.now (λ cycle. None) (λ cycle. None) (λ cycle late. refl) (λ cycle late. refl)) in
     first_ready_is s history c.args.queue.now accesses c.args.now (Some best) going_are inside
-    (found (length log) c.args.now (λ cycle. first_place (hits_now s history accesses cycle) log) (λ cycle. first_place (rows_now s history log accesses cycle) log) best inside
+    (found (length log) c.args.now (λ cycle. first_place (hits_now s history accesses cycle) log) (λ cycle. first_place (row_requests_now s history log accesses cycle) log) best inside
     (c.with_banks.ensures s history log (record { banks_stand = banks; candidates_stand = bank_candidates; in_banks = c.requires.places }) start))
 
 pub returns-else-best-room-clause-first : goal.returns-else-best-room-clause-first
@@ -31,5 +31,5 @@ returns-else-best-room-clause-first c s history banks bank_candidates going_are 
     subst (λ room. IsBestSoFar (length log) c.args.now (λ cycle. None) (λ cycle. None) (no_offer room)) (sym long)
     (none_so_far (length log) c.args.now (λ cycle. None) (λ cycle. None) (λ cycle late. refl) (λ cycle late. refl)) in
     first_ready_is s history c.args.queue.now accesses c.args.now None going_are tt
-    (none_found (length log) c.args.now (λ cycle. first_place (hits_now s history accesses cycle) log) (λ cycle. first_place (rows_now s history log accesses cycle) log) best outside
+    (none_found (length log) c.args.now (λ cycle. first_place (hits_now s history accesses cycle) log) (λ cycle. first_place (row_requests_now s history log accesses cycle) log) best outside
     (c.with_banks.ensures s history log (record { banks_stand = banks; candidates_stand = bank_candidates; in_banks = c.requires.places }) start))

@@ -2,7 +2,7 @@
 use Rattle.std.proofs.Common.{◌≡◌, ap, sym, ◌∙◌}
 use Rattle.std.proofs.lemmas.Bool.{false≢true}
 use Rattle.std.specs.Option.{is_some}
-use Rattle.queue.specs.Moves.{earlier}
+use Rattle.sim_base.specs.Earlier.{earlier}
 use Rattle.queue.specs.Stands.{candidates_of_bank}
 use Rattle.channel_step.specs.FrFcfs.Offers.{if_allowed, oldest_candidate}
 use Rattle.channel_step.proofs.fr_fcfs.first.oldest.Goals as goal

@@ -2,12 +2,13 @@
 use Rattle.std.proofs.Common.{◌≡◌, ℕ, ◌&&◌, ◌||◌, Option, None, Some, length, refl, sym, ◌∙◌, arith}
 use Rattle.sim_base.specs.declared.command.Kind.TheVariants as kind
 use Rattle.bank_ready.proofs.Allowed.{rank_of-bank}
-use Rattle.queue.specs.Candidates.{bank_at, first_place}
+use Rattle.queue.specs.Candidates.{first_place}
+use Rattle.sim_base.specs.Places.{bank_at}
 use Rattle.queue.specs.Columns.{bank_number}
-use Rattle.queue.specs.Moves.{earlier}
+use Rattle.sim_base.specs.Earlier.{earlier}
 use Rattle.queue.specs.Sets.{is_in}
 use Rattle.queue.specs.Stands.{row_of_bank}
-use Rattle.channel_step.specs.FrFcfs.Offers.{rows_now, rows_beside, row_kind}
+use Rattle.channel_step.specs.FrFcfs.Offers.{row_requests_now, row_requests_beside, row_kind}
 use Rattle.channel_step.proofs.FrFcfs.BankMore.{acts_before}
 use Rattle.channel_step.proofs.FrFcfs.Beside.{beside_parts}
 use Rattle.channel_step.proofs.FrFcfs.SoFar.{rows_late, so_far_same}
@@ -24,10 +25,10 @@ returns-then-best-act_floor c s history log hits left known apart so_far =
     let accesses = c.args.commands.accesses in
     let closed = λ (k : ℕ). is_in c.args.closed k in
     let floor = c.act_floor.result in
-    let beside = rows_beside s history log accesses (λ k. closed k || left k) in
-    let late = λ (cycle : ℕ). first_place (λ r. closed (bank_number r.place) && rows_now s history log accesses cycle r) log in
-    so_far_same (length log) now hits (λ cycle. earlier (beside cycle) (late cycle)) hits (rows_beside s history log accesses left) c.args.best.now (λ cycle from. refl)
-    (λ cycle from. sym (beside_parts closed left (rows_now s history log accesses cycle) log apart))
+    let beside = row_requests_beside s history log accesses (λ k. closed k || left k) in
+    let late = λ (cycle : ℕ). first_place (λ r. closed (bank_number r.place) && row_requests_now s history log accesses cycle r) log in
+    so_far_same (length log) now hits (λ cycle. earlier (beside cycle) (late cycle)) hits (row_requests_beside s history log accesses left) c.args.best.now (λ cycle from. refl)
+    (λ cycle from. sym (beside_parts closed left (row_requests_now s history log accesses cycle) log apart))
     (rows_late (length log) now floor hits beside late c.args.best.now (omega arith) (omega arith)
     (λ cycle early.
     acts_before s history _ log accesses closed floor known.in_banks known.banks_stand.ascending

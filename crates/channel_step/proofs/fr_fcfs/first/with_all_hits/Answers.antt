@@ -2,7 +2,7 @@
 use Rattle.std.proofs.Common.{ℕ, refl, sym, ap, length, ◌∙◌}
 use Rattle.std.specs.Option.{is_some}
 use Rattle.queue.specs.Candidates.{first_place}
-use Rattle.queue.specs.Moves.{earlier}
+use Rattle.sim_base.specs.Earlier.{earlier}
 use Rattle.queue.specs.Sets.{is_in}
 use Rattle.queue.specs.Stands.{bank_count, candidates_of_bank}
 use Rattle.queue.proofs.BankCandidatesServed.{earlier_none}

@@ -2,7 +2,7 @@ use Rattle.std.proofs.Common.{◌≡◌, ℕ, ◌<◌, true, List, length, Optio
 use Rattle.sim_base.specs.declared.config.Config.{Config}
 use Rattle.sim_base.specs.declared.command.IssuedCommand.{IssuedCommand}
 use Rattle.queue.specs.declared.request_log.Arrived.{Arrived}
-use Rattle.queue.specs.Moves.{earlier}
+use Rattle.sim_base.specs.Earlier.{earlier}
 use Rattle.queue.specs.Sets.{is_in}
 use Rattle.queue.specs.Stands.{bank_count}
 use Rattle.channel_step.specs.FrFcfs.Requests.{StandForLog}

@@ -1,6 +1,6 @@
 -- One bank more, whose row hit is taken.
 use Rattle.std.proofs.Common.{true, refl, sym, ap, subst, ◌∙◌, arith}
-use Rattle.queue.specs.Candidates.{bank_at}
+use Rattle.sim_base.specs.Places.{bank_at}
 use Rattle.queue.specs.Stands.{candidates_of_bank}
 use Rattle.channel_step.specs.FrFcfs.Offers.{IsReadyFrom}
 use Rattle.channel_step.proofs.FrFcfs.SoFar.{not_taken, taken, none_taken}

@@ -1,7 +1,7 @@
 -- Row hits that do not go, or are left out since they are ready only after the cycle of the best offer.
 use Rattle.std.proofs.Common.{◌&&◌, refl, ap, sym, length, ◌∙◌, arith}
 use Rattle.queue.specs.Candidates.{first_place}
-use Rattle.queue.specs.Moves.{earlier}
+use Rattle.sim_base.specs.Earlier.{earlier}
 use Rattle.channel_step.specs.FrFcfs.Offers.{only, hits_now}
 use Rattle.channel_step.proofs.FrFcfs.BankMore.{hits_before, none_goes, all_go}
 use Rattle.channel_step.proofs.FrFcfs.SoFar.{hits_late, so_far_same}

@@ -1,6 +1,6 @@
 -- One bank more, whose row is opened or closed.
 use Rattle.std.proofs.Common.{false, refl, sym, subst, arith}
-use Rattle.queue.specs.Candidates.{bank_at}
+use Rattle.sim_base.specs.Places.{bank_at}
 use Rattle.queue.specs.Stands.{candidates_of_bank}
 use Rattle.channel_step.specs.FrFcfs.Offers.{oldest_candidate, IsReadyFrom}
 use Rattle.channel_step.proofs.FrFcfs.SoFar.{not_taken, taken}

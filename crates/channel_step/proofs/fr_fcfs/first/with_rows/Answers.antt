@@ -7,7 +7,7 @@ use Rattle.sim_base.specs.declared.command.Kind.TheVariants as kind
 use Rattle.queue.specs.Candidates.{first_place}
 use Rattle.queue.specs.Sets.{is_in}
 use Rattle.queue.specs.Stands.{bank_count, candidates_of_bank, row_of_bank}
-use Rattle.channel_step.specs.FrFcfs.Offers.{rows_now, rows_beside, row_kind}
+use Rattle.channel_step.specs.FrFcfs.Offers.{row_requests_now, row_requests_beside, row_kind}
 use Rattle.channel_step.proofs.FrFcfs.Beside.{beside_all, beside_same, beside_nothing}
 use Rattle.channel_step.proofs.FrFcfs.BankMore.{row_none}
 use Rattle.channel_step.proofs.FrFcfs.SoFar.{so_far_same}
@@ -28,7 +28,7 @@ is_open true false is = is
 is_open false true is = refl
 is_open false false is = is
 
--- they are all that are asked for, with those that are closed
+-- the open and the closed banks of those that are asked for are all of them
 either : (asked opened : Bool) → ((asked && not (asked && not opened)) || (asked && not opened)) ≡ asked
 either true true = refl
 either true false = refl
@@ -70,7 +70,7 @@ with_acts-requires-clause-needed c k there =
     }
 
 pub returns : goal.returns
-returns c s history log hits known before =
+returns c s history log known hits before =
     let now = c.args.now in
     let accesses = c.args.accesses in
     let asked = c.minus-asked.result in
@@ -82,10 +82,10 @@ returns c s history log hits known before =
     ∙ (λ i. (is_in asked k && not (c.minus-closed.ensures k i)) || c.minus-closed.ensures k i)
     ∙ either (is_in asked k) (is_in c.open_banks.result k) in
     let start =
-    so_far_same (length log) now hits (λ cycle. None) hits (rows_beside s history log accesses (λ k. is_in opened k || is_in closed k)) c.args.best.now (λ cycle late. refl)
+    so_far_same (length log) now hits (λ cycle. None) hits (row_requests_beside s history log accesses (λ k. is_in opened k || is_in closed k)) c.args.best.now (λ cycle late. refl)
     (λ cycle late.
     sym
-    (beside_nothing (λ k. is_in opened k || is_in closed k) (bank_count c.args.bank_candidates.now) (rows_now s history log accesses cycle) log known.candidates_stand.within
+    (beside_nothing (λ k. is_in opened k || is_in closed k) (bank_count c.args.bank_candidates.now) (row_requests_now s history log accesses cycle) log known.candidates_stand.within
     (λ k exists off.
     row_none s history _ log accesses k (candidates_of_bank c.args.bank_candidates.now k) known.in_banks (known.candidates_stand.candidates_are k exists) (known.candidates_stand.rows_are k exists)
     ((λ i. (sym (c.banks_with_candidate.ensures.each k exists)) i && not ((sym (c.hit.ensures k exists)) i)) ∙ sym (c.minus-asked.ensures k) ∙ sym (whole k) ∙ off) cycle)))
@@ -94,9 +94,9 @@ returns c s history log hits known before =
     λ k there. not-true (is_in closed k) (and_parts (is_in asked k) (not (is_in closed k)) (sym (c.minus-opened.ensures k) ∙ there)).1 in
     let half = c.with_rows_of.ensures s history log hits (λ k. is_in closed k) known apart start in
     let rest =
-    so_far_same (length log) now hits (rows_beside s history log accesses (λ k. is_in closed k)) hits (rows_beside s history log accesses (λ k. is_in closed k || false)) c.with_rows_of.new.best
+    so_far_same (length log) now hits (row_requests_beside s history log accesses (λ k. is_in closed k)) hits (row_requests_beside s history log accesses (λ k. is_in closed k || false)) c.with_rows_of.new.best
     (λ cycle late. refl)
-    (λ cycle late. beside_same (λ k. is_in closed k) (λ k. is_in closed k || false) (rows_now s history log accesses cycle) log (λ k. sym (or-false (is_in closed k)))) half in
-    so_far_same (length log) now hits (rows_beside s history log accesses (λ k. false)) hits (λ cycle. first_place (rows_now s history log accesses cycle) log) c.with_acts.new.best
-    (λ cycle late. refl) (λ cycle late. beside_all (λ k. false) (rows_now s history log accesses cycle) log (λ k. refl))
+    (λ cycle late. beside_same (λ k. is_in closed k) (λ k. is_in closed k || false) (row_requests_now s history log accesses cycle) log (λ k. sym (or-false (is_in closed k)))) half in
+    so_far_same (length log) now hits (row_requests_beside s history log accesses (λ k. false)) hits (λ cycle. first_place (row_requests_now s history log accesses cycle) log) c.with_acts.new.best
+    (λ cycle late. refl) (λ cycle late. beside_all (λ k. false) (row_requests_now s history log accesses cycle) log (λ k. refl))
     (c.with_acts.ensures s history log hits (λ k. false) known (λ k there. refl) rest)

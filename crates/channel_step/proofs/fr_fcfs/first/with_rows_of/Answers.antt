@@ -1,8 +1,8 @@
 -- One bank less is left, and then none but the others.
 use Rattle.std.proofs.Common.{ℕ, ◌||◌, refl, sym, ap, length, ◌∙◌, arith}
 use Rattle.queue.specs.Sets.{is_in}
-use Rattle.queue.specs.Moves.{earlier}
-use Rattle.channel_step.specs.FrFcfs.Offers.{rows_now, rows_in, rows_beside}
+use Rattle.sim_base.specs.Earlier.{earlier}
+use Rattle.channel_step.specs.FrFcfs.Offers.{row_requests_now, row_requests_in, row_requests_beside}
 use Rattle.channel_step.proofs.FrFcfs.Beside.{beside_more, beside_same, left_before, size_less}
 use Rattle.channel_step.proofs.FrFcfs.SoFar.{so_far_same}
 use Rattle.channel_step.proofs.fr_fcfs.first.with_rows_of.Goals as goal
@@ -43,12 +43,12 @@ loop-bank-preserved c =
     record {
       among = λ k still. c.loop-bank.invariant.among k (left_before (λ j. is_in rest j) (λ j. is_in after j) bank is others k still);
       so_far = λ s history log hits left known apart before.
-          let rows = rows_beside s history log accesses (λ k. is_in rest k || left k) in
-          so_far_same (length log) now hits (λ cycle. earlier (rows cycle) (rows_in s history log accesses bank cycle)) hits
-          (rows_beside s history log accesses (λ k. is_in after k || left k)) c.with_row.new.best (λ cycle late. refl)
+          let rows = row_requests_beside s history log accesses (λ k. is_in rest k || left k) in
+          so_far_same (length log) now hits (λ cycle. earlier (rows cycle) (row_requests_in s history log accesses bank cycle)) hits
+          (row_requests_beside s history log accesses (λ k. is_in after k || left k)) c.with_row.new.best (λ cycle late. refl)
           (λ cycle late.
           sym
-          (beside_more (λ k. is_in rest k || left k) (λ k. is_in after k || left k) bank (rows_now s history log accesses cycle) log (ap (λ b. b || left bank) there)
+          (beside_more (λ k. is_in rest k || left k) (λ k. is_in after k || left k) bank (row_requests_now s history log accesses cycle) log (ap (λ b. b || left bank) there)
           (ap (λ b. b || left bank) is ∙ apart bank (c.loop-bank.invariant.among bank there))
           (λ j other. ap (λ b. b || left j) (others j other))))
           (c.with_row.ensures s history log known hits rows (c.loop-bank.invariant.so_far s history log hits left known apart before));
@@ -58,7 +58,7 @@ pub returns : goal.returns
 returns c s history log hits left known apart before =
     let accesses = c.args.commands.accesses in
     let rest = c.loop-bank.rest in
-    so_far_same (length log) c.args.commands.now hits (rows_beside s history log accesses (λ k. is_in rest k || left k)) hits (rows_beside s history log accesses left) c.loop-bank.best
+    so_far_same (length log) c.args.commands.now hits (row_requests_beside s history log accesses (λ k. is_in rest k || left k)) hits (row_requests_beside s history log accesses left) c.loop-bank.best
     (λ cycle late. refl)
-    (λ cycle late. beside_same (λ k. is_in rest k || left k) left (rows_now s history log accesses cycle) log (λ k. ap (λ b. b || left k) (c.in_default.ensures.none k)))
+    (λ cycle late. beside_same (λ k. is_in rest k || left k) left (row_requests_now s history log accesses cycle) log (λ k. ap (λ b. b || left k) (c.in_default.ensures.none k)))
     (c.loop-bank.invariant.so_far s history log hits left known apart before)

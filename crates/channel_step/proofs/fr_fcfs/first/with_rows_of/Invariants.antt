@@ -4,7 +4,7 @@ use Rattle.sim_base.specs.declared.command.IssuedCommand.{IssuedCommand}
 use Rattle.queue.specs.declared.request_log.Arrived.{Arrived}
 use Rattle.queue.specs.Sets.{is_in}
 use Rattle.channel_step.specs.FrFcfs.Requests.{StandForLog}
-use Rattle.channel_step.specs.FrFcfs.Offers.{IsBestSoFar, rows_beside, with_left, AreNotLeft}
+use Rattle.channel_step.specs.FrFcfs.Offers.{IsBestSoFar, row_requests_beside, with_skipped, AreNotSkipped}
 use Rattle.channel_step.proofs.FrFcfs.Beside.{size}
 use Rattle.channel_step.proofs.fr_fcfs.first.with_rows_of.Given as goal
 
@@ -14,9 +14,9 @@ invariant-loop-bank l = record {
   among : (k : ℕ) → is_in l.rest k ≡ true → is_in l.fn.asked k ≡ true;
   so_far : (s : Config) (history : List IssuedCommand) (log : List Arrived) (hits : ℕ → Option ℕ) (left : ℕ → Bool)
       → StandForLog l.bank_candidates l.banks s history log
-      → AreNotLeft (is_in l.fn.asked) left
-      → IsBestSoFar (length log) l.commands.now hits (rows_beside s history log l.commands.accesses (with_left (is_in l.fn.asked) left)) l.fn.best
-      → IsBestSoFar (length log) l.commands.now hits (rows_beside s history log l.commands.accesses (with_left (is_in l.rest) left)) l.best;
+      → AreNotSkipped (is_in l.fn.asked) left
+      → IsBestSoFar (length log) l.commands.now hits (row_requests_beside s history log l.commands.accesses (with_skipped (is_in l.fn.asked) left)) l.fn.best
+      → IsBestSoFar (length log) l.commands.now hits (row_requests_beside s history log l.commands.accesses (with_skipped (is_in l.rest) left)) l.best;
 }
 
 abbrev pub decreases-loop-bank : goal.decreases-loop-bank

@@ -1,7 +1,7 @@
 use Rattle.std.proofs.Common.{◌≡◌, Bool, true, false, ◌+◌, leb, take, drop, MatchBool, refl, sym, subst, ◌∙◌}
 use Rattle.std.proofs.lemmas.Bool.{leb-true, leb-false}
+use Rattle.sim_base.proofs.Lists.{drop-at_none}
 use Rattle.command_table.specs.Lefts.{AllUpTo, AllAfter}
-use Rattle.command_table.proofs.Taking.{none-left}
 use Rattle.command_table.proofs.Cutting.{up-to-here, after-here}
 use Rattle.command_table.proofs.left.Left.goes_up_to.Goals as goal
 
@@ -13,4 +13,4 @@ returns-in-Some c = by (leb c.in-Some.row.cycle c.args.cycle) refl
     by false e = after-here c.args.self.now c.args.count c.args.cycle c.in-Some.row c.requires (sym c.get.ensures ∙ c.in-Some.is) (leb-false _ _ e)
 
 pub returns-in-None : goal.returns-in-None
-returns-in-None c = subst (AllAfter c.args.cycle) (sym (none-left c.args.self.now c.args.count (sym c.get.ensures ∙ c.in-None.is))) tt
+returns-in-None c = subst (AllAfter c.args.cycle) (sym (drop-at_none c.args.self.now c.args.count (sym c.get.ensures ∙ c.in-None.is))) tt

@@ -6,8 +6,8 @@ use Rattle.core_window.proofs.Running.{advances-none}
 use Rattle.core_window.proofs.Working.{sound}
 use Rattle.core_window.proofs.core_unit.Core.advance.Goals as goal
 
-pub is_stuck-requires : goal.is_stuck-requires
-is_stuck-requires c = (sound (view_of c.args.self.now) c.requires.stands).retired
+pub is_stalled-requires : goal.is_stalled-requires
+is_stalled-requires c = (sound (view_of c.args.self.now) c.requires.stands).retired
 
 pub returns-then-until-self-clause-advances : goal.returns-then-until-self-clause-advances
 returns-then-until-self-clause-advances c =
@@ -22,10 +22,10 @@ pub rest-requires-clause-stands : goal.rest-requires-clause-stands
 rest-requires-clause-stands c = c.requires.stands
 
 pub rest-requires-clause-undone : goal.rest-requires-clause-undone
-rest-requires-clause-undone c = c.if-is_stuck.ensures.undone refl
+rest-requires-clause-undone c = c.if-is_stalled.ensures.undone refl
 
 pub rest-requires-clause-full : goal.rest-requires-clause-full
-rest-requires-clause-full c = c.if-is_stuck.ensures.full refl
+rest-requires-clause-full c = c.if-is_stalled.ensures.full refl
 
 pub rest-requires-clause-order : goal.rest-requires-clause-order
 rest-requires-clause-order c = c.if-until-self.false
@@ -33,8 +33,8 @@ rest-requires-clause-order c = c.if-until-self.false
 pub rest-requires-clause-early : goal.rest-requires-clause-early
 rest-requires-clause-early c = c.requires.early
 
-pub returns-then-is_stuck-clause-cycle : goal.returns-then-is_stuck-clause-cycle
-returns-then-is_stuck-clause-cycle c = c.rest.ensures.cycle
+pub returns-then-is_stalled-clause-cycle : goal.returns-then-is_stalled-clause-cycle
+returns-then-is_stalled-clause-cycle c = c.rest.ensures.cycle
 
 pub work_on-requires-clause-stands : goal.work_on-requires-clause-stands
 work_on-requires-clause-stands c = c.requires.stands

@@ -1,12 +1,12 @@
 -- A run of Plain entries counts as a product.
 use Rattle.std.proofs.Common.{arith}
 use Rattle.core_window.specs.CoreViews.{view_of}
-use Rattle.core_window.proofs.Stretching.{quiet-none, quiet-steady}
+use Rattle.core_window.proofs.Stretching.{unsent-none, unsent-steady}
 use Rattle.core_window.proofs.core_unit.Core.flow_on.Goals as goal
 
 pub returns-then-flow-eq0 : goal.returns-then-flow-eq0
-returns-then-flow-eq0 c = quiet-none (view_of c.args.self.now) c.args.until (omega arith)
+returns-then-flow-eq0 c = unsent-none (view_of c.args.self.now) c.args.until (omega arith)
 
 pub returns : goal.returns
 returns c =
-    quiet-steady (view_of c.args.self.now) (view_of c.repeat.new.self) c.flow-flow.result.cycles c.args.until _ _ c.flow-flow.ensures.steady c.repeat.ensures (omega (arith, c.flow-flow.ensures.most))
+    unsent-steady (view_of c.args.self.now) (view_of c.repeat.new.self) c.flow-flow.result.cycles c.args.until _ _ c.flow-flow.ensures.steady c.repeat.ensures (omega (arith, c.flow-flow.ensures.most))

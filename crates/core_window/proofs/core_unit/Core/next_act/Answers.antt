@@ -5,7 +5,7 @@ use Rattle.core_window.specs.Causes.{first_undone}
 use Rattle.core_window.specs.CoreViews.{view_of}
 use Rattle.core_window.specs.declared.outstanding.OutstandingRead.{OutstandingRead}
 use Rattle.core_window.proofs.Resting.{rest-standing, retires-first}
-use Rattle.core_window.proofs.Sticking.{stuck-rests}
+use Rattle.core_window.proofs.Sticking.{stalled-rests}
 use Rattle.core_window.proofs.Working.{sound}
 use Rattle.core_window.proofs.core_unit.Core.next_act.Goals as goal
 
@@ -24,4 +24,4 @@ returns-then-is_full c s core trace steps mail h =
     let undone : first_undone a.stats.issued a.outstanding ≤ a.stats.retired =
     subst (λ (ws : List OutstandingRead). first_undone a.stats.issued ws ≤ a.stats.retired) c.as_slice.ensures
     (⊎_elim (λ l. absurd (false≢true (c.if-is_next_done.ensures.1 l))) (λ g. g) (cases_lt a.stats.retired (first_undone a.stats.issued c.as_slice.result.now))) in
-    stuck-rests s core trace steps mail a (sound a (rest-standing a c.requires.stands)).issued undone (c.if-is_full.ensures.0 refl) h
+    stalled-rests s core trace steps mail a (sound a (rest-standing a c.requires.stands)).issued undone (c.if-is_full.ensures.0 refl) h

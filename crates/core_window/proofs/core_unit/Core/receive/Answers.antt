@@ -2,7 +2,7 @@
 use Rattle.std.proofs.Common.{◌∙◌, sym, ap, subst, find, eqb}
 use Rattle.sim_base.specs.Counts.{issue_cycle}
 use Rattle.core_window.specs.CoreViews.{view_of}
-use Rattle.core_window.specs.Fit.{IsDuePayload}
+use Rattle.core_window.specs.Fit.{MayCarry}
 use Rattle.core_window.specs.Outstanding.{IsByNumber}
 use Rattle.core_window.specs.declared.outstanding.OutstandingRead.{OutstandingRead}
 use Rattle.core_window.proofs.Receiving.{outstanding-by_number, reply-room, reply-stands, credit-stands, awaited_found}
@@ -19,13 +19,13 @@ take_reply-requires-clause-room c =
 pub returns-in-Reply : goal.returns-in-Reply
 returns-in-Reply c s core trace steps mail h now due =
     let entry = c.in-Reply.entry in
-    let awaited = subst (IsDuePayload s core trace steps mail c.args.message.link) c.in-Reply.is due in
+    let awaited = subst (MayCarry s core trace steps mail c.args.message.link) c.in-Reply.is due in
     reply-stands s core trace steps mail c.args.message (view_of c.args.self.now) (view_of c.take_reply.new.self) entry h now c.in-Reply.is awaited
     (c.take_reply.ensures (record { entry = entry; issued = issue_cycle steps entry })
     (ap (find (λ (r : OutstandingRead). eqb r.entry entry)) h.outstanding ∙ awaited_found trace steps mail entry awaited))
 
 pub returns-in-Credit : goal.returns-in-Credit
 returns-in-Credit c s core trace steps mail h now due =
-    let owed = subst (IsDuePayload s core trace steps mail c.args.message.link) c.in-Credit.is due in
+    let owed = subst (MayCarry s core trace steps mail c.args.message.link) c.in-Credit.is due in
     credit-stands s core trace steps mail c.args.message (view_of c.args.self.now) (view_of c.take_credit_on.new.self) c.in-Credit.access c.in-Credit.entry h now c.in-Credit.is owed
     c.take_credit_on.ensures.rest c.take_credit_on.ensures.len c.take_credit_on.ensures.credits

@@ -2,7 +2,7 @@
 use Rattle.std.proofs.Common.{◌≡◌, ◌-◌, ap, arith}
 use Rattle.sim_base.specs.declared.history.CoreStep.{CoreStep}
 use Rattle.core_window.specs.CoreViews.{view_of}
-use Rattle.core_window.proofs.Stretching.{rest-steady, quiet-steady}
+use Rattle.core_window.proofs.Stretching.{rest-steady, unsent-steady}
 use Rattle.core_window.proofs.core_unit.Core.rest.Goals as goal
 
 pub repeat-requires-clause-steady : goal.repeat-requires-clause-steady
@@ -12,7 +12,7 @@ repeat-requires-clause-steady c =
 
 pub returns-clause-goes : goal.returns-clause-goes
 returns-clause-goes c =
-    quiet-steady (view_of c.args.self.now) (view_of c.repeat.new.self) (c.args.until - c.args.self.now.cycle) c.args.until c.idle_work-cycle_work.result.core_step c.idle_work-cycle_work.result.why
+    unsent-steady (view_of c.args.self.now) (view_of c.repeat.new.self) (c.args.until - c.args.self.now.cycle) c.args.until c.idle_work-cycle_work.result.core_step c.idle_work-cycle_work.result.why
     (rest-steady (view_of c.args.self.now) c.idle_work-cycle_work.result.core_step c.idle_work-cycle_work.result.why c.idle_work-cycle_work.result.memory _
     (ap (λ (r : CoreStep). r.retired) c.idle_work-cycle_work.ensures.idle) (ap (λ (r : CoreStep). r.issued) c.idle_work-cycle_work.ensures.idle) c.idle_work-cycle_work.ensures.does)
     c.repeat.ensures (omega arith)

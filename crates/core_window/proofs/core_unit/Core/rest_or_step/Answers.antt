@@ -1,7 +1,8 @@
 -- A rest counts as a product, and any other cycle goes alone.
 use Rattle.std.proofs.Common.{arith}
 use Rattle.core_window.specs.CoreViews.{view_of}
-use Rattle.core_window.proofs.Stretching.{rest-steady, steady-goes, cycle-goes, ok-both}
+use Rattle.core_window.proofs.Stretching.{rest-steady, steady-goes, cycle-goes}
+use Rattle.sim_base.proofs.Results.{both_on_ok}
 use Rattle.core_window.proofs.core_unit.Core.rest_or_step.Goals as goal
 
 pub repeat-requires-clause-steady : goal.repeat-requires-clause-steady
@@ -16,7 +17,7 @@ returns-then-cycle_work-eq0-2 c =
 
 pub returns-else-cycle_work-eq0 : goal.returns-else-cycle_work-eq0
 returns-else-cycle_work-eq0 c =
-    ok-both c.step.result _ _ _
+    both_on_ok c.step.result
     (λ e h. cycle-goes (view_of c.args.self.now) (view_of c.step.new.self) c.args.until c.args.sent.now.items c.step.new.sent.items c.requires.order e h)
     c.step.ensures.cycle c.step.ensures.advances
 

@@ -1,4 +1,4 @@
--- It stands for no steps and no messages.
+-- A core that has just started stands for no steps and no messages.
 use Rattle.std.proofs.Common.{rules, refl, arith}
 use Rattle.core_window.proofs.Starting.{start-stands}
 use Rattle.core_window.proofs.core_unit.Core.start.Goals as goal

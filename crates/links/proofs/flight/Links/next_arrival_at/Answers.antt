@@ -1,10 +1,10 @@
 use Rattle.std.proofs.Common.{◌≡◌, ◌≤◌, ◌+◌, ap, ap₂, ◌∙◌, sym, subst}
 use Rattle.std.specs.Prelude.{slice_get, filter, All, IfSome}
-use Rattle.sim_base.specs.History.{is_unit, by_age}
+use Rattle.sim_base.specs.History.{is_unit, by_age, receiver_of}
 use Rattle.std.specs.Option.{option_map}
 use Rattle.sim_base.specs.declared.message.Message.{Message}
-use Rattle.links.specs.Rings.{contents, joined, ring_at, earlier_of}
-use Rattle.links.specs.InFlight.{receiver_of}
+use Rattle.links.specs.Rings.{contents, joined, ring_at}
+use Rattle.sim_base.specs.Earlier.{earlier}
 use Rattle.links.proofs.Ages.{filter-in_order, first_is_least, by_age-twice}
 use Rattle.links.proofs.Both.{first_of_both}
 use Rattle.links.proofs.Held.{at_no_unit, at_channel, at_core, ring_is}
@@ -40,7 +40,7 @@ to_core : (c : After-earlier) → c.earlier.result
     ≡ option_map (λ (m : Message). m.arrival) (slice_get (filter (λ m. is_unit (receiver_of c.self.inside.channels m.link) c.args.unit) (by_age (joined (contents c.self.inside.rings.items)))) 0)
 to_core c =
     c.earlier.ensures
-    ∙ ap₂ earlier_of
+    ∙ ap₂ earlier
     (c.first_arrival_in-first.ensures ∙ ap (λ rings. option_map (λ (m : Message). m.arrival) (slice_get (ring_at (contents rings) c.in-Some.number) 0)) c.deref.ensures.value)
     (c.first_arrival_in.ensures ∙ ap (λ rings. option_map (λ (m : Message). m.arrival) (slice_get (ring_at (contents rings) (c.in-Some.number + 1)) 0)) c.deref-in-Core.ensures.value)
     ∙ first_of_both _ _ (ring_is _ (c.in-Some.number + 1) 0 _ c.self.invariant.1).in_order

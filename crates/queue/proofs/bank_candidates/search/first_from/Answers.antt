@@ -1,5 +1,6 @@
 -- The place is the first at which a request passes.
-use Rattle.std.proofs.Common.{◌≡◌, ◌<◌, ◌+◌, ◌-◌, ◌&&◌, Bool, true, false, length, take, drop, get_or, refl, ap, ◌∙◌, arith}
+use Rattle.std.proofs.Common.{◌<◌, ◌+◌, ◌-◌, ◌&&◌, length, take, drop, get_or, ap, ◌∙◌, arith}
+use Rattle.std.proofs.Math.Bool.{and-false}
 use Rattle.std.proofs.lemmas.List.{length-drop, take_rest}
 use Rattle.queue.specs.Log.{eligible_column}
 use Rattle.queue.specs.Marks.{is_marked}
@@ -7,10 +8,6 @@ use Rattle.queue.specs.Candidates.{wants}
 use Rattle.queue.proofs.Searches.{tested, none_more, found_here, found_none, none_waits}
 use Rattle.queue.proofs.Tagged.{same_length, none_tagged, marked_tag}
 use Rattle.queue.proofs.bank_candidates.search.first_from.Goals as goal
-
-never : (t : Bool) → (t && false) ≡ false
-never true = refl
-never false = refl
 
 -- none is found where none may be wanted
 pub returns-then-not-may_be_wanted-clause-first : goal.returns-then-not-may_be_wanted-clause-first
@@ -69,7 +66,7 @@ loop-at-preserved c before =
     (λ d within.
     tested test log c.log-arrived.result.now place _ c.is_wanted.result d within c.log-arrived.ensures.log c.is_wanted.ensures
     ∙ ap (λ b. is_marked (get_or (eligible_column log) place 0) && b) c.if-is_wanted.false
-    ∙ never (is_marked (get_or (eligible_column log) place 0)))
+    ∙ and-false (is_marked (get_or (eligible_column log) place 0)))
 
 pub returns-in_default-clause-first : goal.returns-in_default-clause-first
 returns-in_default-clause-first c before =

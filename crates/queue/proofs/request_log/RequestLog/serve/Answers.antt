@@ -6,7 +6,7 @@ use Rattle.std.specs.Vec.{with_item}
 use Rattle.queue.specs.declared.request_log.Arrived.{Arrived}
 use Rattle.queue.specs.Marks.{is_marked}
 use Rattle.queue.specs.Log.{LogView, absent, served_at, waits_at, waiting_requests, eligible_column, unblocked_by}
-use Rattle.queue.specs.Columns.{counter_of_line, counter_of_row, line_counter, bank_number, tag_word, left_tag, tag_column, blocked_count, AreCounted}
+use Rattle.queue.specs.Columns.{counter_of_line, counter_of_row, line_counter, bank_number, tag_word, served_tag, tag_column, blocked_count, AreCounted}
 use Rattle.queue.specs.Lines.{NoneTold, IsFoundAt}
 use Rattle.queue.specs.RequestLogKept.{AreKept}
 use Rattle.queue.proofs.Counted.{none_asks}
@@ -97,15 +97,15 @@ left_alone : (c : After-index_mut-4) (blocked : ℕ) → c.args.place < length c
     → blocked + cond (not (is_marked (get_or (eligible_column c.self.inside.log.items) c.args.place 0))) 1 0 ≡ c.self.inside.blocked
     → AreKept (record c.self.inside {
       log = with_item c.self.inside.log c.args.place (record c.index_mut.result.now { waits = false });
-      tags = with_item c.self.inside.tags c.args.place left_tag;
+      tags = with_item c.self.inside.tags c.args.place served_tag;
       blocked = blocked;
       lines = with_item c.self.inside.lines c.line_counter-line.result (c.index-2.result.now - 1);
       rows = with_item c.self.inside.rows c.row_counter_of-row.result (c.index-3.result.now - 1);
     })
 left_alone c blocked exists waiting there whole marks count =
     let q = c.self.inside in
-    left c (with_item q.tags c.args.place left_tag) blocked exists waiting there whole
-    (ap (λ tags. set tags c.args.place left_tag) c.self.invariant.tags_are ∙ sym (tag_left q.log.items c.args.place marks)) refl
+    left c (with_item q.tags c.args.place served_tag) blocked exists waiting there whole
+    (ap (λ tags. set tags c.args.place served_tag) c.self.invariant.tags_are ∙ sym (tag_left q.log.items c.args.place marks)) refl
     (omega (arith, count, blocked_left q.log.items c.args.place exists waiting marks, c.self.invariant.blocked_are))
 
 pub index_mut-requires-2 : goal.index_mut-requires-2
@@ -220,7 +220,7 @@ next_for_line-requires whole =
 
 -- none behind waits for the line where the search finds none
 none_found : (c : After-index_mut) (log : List Arrived) (tags : List ℕ) → log ≡ set c.self.inside.log.items c.args.place (record c.index_mut.result.now { waits = false })
-    → tags ≡ set c.self.inside.tags.items c.args.place left_tag → NoneTold false c.index.result.now.request.place log tags (c.args.place + 1) (length log)
+    → tags ≡ set c.self.inside.tags.items c.args.place served_tag → NoneTold false c.index.result.now.request.place log tags (c.args.place + 1) (length log)
     → NoneBehind c.self.inside.log.items c.args.place (length c.self.inside.log.items)
 none_found c log tags log_left tags_left none =
     let q = c.self.inside in
@@ -231,7 +231,7 @@ none_found c log tags log_left tags_left none =
 
 -- the next one of the line, where the search finds one
 next_found : (c : After-index_mut) (log : List Arrived) (tags : List ℕ) (next : ℕ) → log ≡ set c.self.inside.log.items c.args.place (record c.index_mut.result.now { waits = false })
-    → tags ≡ set c.self.inside.tags.items c.args.place left_tag → IsFoundAt false c.index.result.now.request.place log tags (c.args.place + 1) next
+    → tags ≡ set c.self.inside.tags.items c.args.place served_tag → IsFoundAt false c.index.result.now.request.place log tags (c.args.place + 1) next
     → IsNextAt c.self.inside.log.items c.args.place next
 next_found c log tags next log_left tags_left found =
     let q = c.self.inside in
@@ -279,7 +279,7 @@ invariant_of-self-2 whole =
     ∙ get_or_default (served_at q.log.items place) next_place whole.index-4.result.now absent below in
     let tag = whole.tag_of.ensures ∙ ap (λ (a : Arrived). tag_word true a.request.access (bank_number a.request.place)) read in
     let fewer = blocked_fewer q.log.items place next_place (within c) (waits c) mark next in
-    left d (with_item (with_item q.tags place left_tag) next_place whole.tag_of.result) (q.blocked - 1) (within c) (waits c) (request_is c) (log_is c)
+    left d (with_item (with_item q.tags place served_tag) next_place whole.tag_of.result) (q.blocked - 1) (within c) (waits c) (request_is c) (log_is c)
     (tags_next q.log.items q.tags.items place next_place whole.tag_of.result (within c) (waits c) mark next c.self.invariant.tags_are tag) refl
     (omega (arith, fewer, c.self.invariant.blocked_are))
 

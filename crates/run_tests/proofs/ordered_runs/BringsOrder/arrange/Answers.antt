@@ -1,14 +1,10 @@
 use Rattle.std.proofs.Common.{◌≡◌, ◌≢◌, zero, suc, Bool, true, false, cond, List, [], ◌∷◌, ◌++◌, All, sym, ap, subst, arith}
-use Rattle.std.specs.Prelude.{Any}
 use Rattle.std.proofs.lemmas.List.Elements.{All-append}
 use Rattle.shards.specs.Jobs.{JobView}
 use Rattle.shards.specs.declared.job.JobName.{JobName}
+use Rattle.reference.specs.Orders.{IsGiven}
 use Rattle.reference.proofs.Given.{each-given}
 use Rattle.run_tests.proofs.ordered_runs.BringsOrder.arrange.Goals as goal
-
--- what has the name of one of some results is one of them
-abbrev IsGiven : List JobView → JobView → Type 0
-IsGiven xs d = Any (λ r. r.name ≡ d.name) xs → Any (λ r. r ≡ d) xs
 
 alone : (P : JobView → Type 0) (x : JobView) → P x → All P (x ∷ [])
 alone P x h zero d l = h

@@ -1,13 +1,9 @@
 use Rattle.std.proofs.Common.{◌≡◌, ℕ, List, All, IsPermutation, take, sym, subst}
-use Rattle.std.specs.Prelude.{Any}
 use Rattle.std.proofs.lemmas.List.Elements.{All-take}
 use Rattle.shards.specs.Jobs.{JobView}
+use Rattle.reference.specs.Orders.{IsGiven}
 use Rattle.reference.proofs.Given.{permuted-given}
 use Rattle.run_tests.proofs.ordered_runs.LastOrder.arrange.Goals as goal
-
--- what has the name of one of some results is one of them
-abbrev IsGiven : List JobView → JobView → Type 0
-IsGiven xs d = Any (λ r. r.name ≡ d.name) xs → Any (λ r. r ≡ d) xs
 
 -- the first of some results in another order
 left-given : (n : ℕ) (xs ys zs : List JobView) → IsPermutation xs ys → zs ≡ take n ys → All (IsGiven xs) zs

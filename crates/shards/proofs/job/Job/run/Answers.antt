@@ -8,7 +8,7 @@ use Rattle.std.proofs.lemmas.List.{with_items_is}
 use Rattle.links.specs.InFlight.{InFlight}
 use Rattle.sim_base.specs.Locality.{TravelsFor}
 use Rattle.shards.specs.Lists.{AllEmpty, AreSortedByShard, lists_of, with_lists}
-use Rattle.shards.specs.Shards.{HasGone, HoldWhatWasSent, IsOfMachine, IsSplit, Sleeps, sent_of_shard}
+use Rattle.shards.specs.Shards.{HasShardRun, HoldWhatWasSent, IsOfMachine, IsSplit, Sleeps, sent_of_shard}
 use Rattle.shards.specs.Jobs.{IsDone, JobView}
 use Rattle.units.specs.Wakes.{AreLowered}
 use Rattle.units.specs.declared.machine.Machine.{Machine}
@@ -18,9 +18,9 @@ use Rattle.shards.proofs.job.Job.run.Goals as goal
 
 pub take_up-requires : goal.take_up-requires
 take_up-requires c =
-    let gone = c.self.invariant.before.gone in
+    let has_run = c.self.invariant.before.has_run in
     subst IsOfMachine (sym c.deref_mut.ensures.value)
-    (record { words = omega (arith, gone.within, gone.words_count); links = ap (λ (x : InFlight). x.channels) gone.flight })
+    (record { words = omega (arith, has_run.within, has_run.words_count); links = ap (λ (x : InFlight). x.channels) has_run.flight })
 
 pub go-requires-clause-order : goal.go-requires-clause-order
 go-requires-clause-order c = c.self.invariant.next
@@ -105,7 +105,7 @@ invariant_of-result c =
     let bounds : after.bounds ≡ shard.bounds = went.bounds ∙ ap (λ (x : Shard). x.bounds) same in
     let first : after.range.first ≡ shard.range.first = went.first ∙ ap (λ (x : Shard). x.range.first) same in
     let count : length after.range.units.items ≡ length shard.range.units.items = went.count ∙ ap (λ (x : Shard). length x.range.units.items) same in
-    let gone = subst (λ (x : Shard). HasGone (arc_value x.machine) f.name.from f.name.until after) same went.gone in
+    let has_run = subst (λ (x : Shard). HasShardRun (arc_value x.machine) f.name.from f.name.until after) same went.has_run in
     let sent = went.sent ∙ ap (λ (x : Shard). sent_of_shard (arc_value x.machine) f.name.from f.name.until x) same in
     let up-lists = with_items_is f.inbound c.take_up.new.lists (up.count ∙ ap length c.deref_mut-2.ensures.value ∙ sym f.inbound.ok.0) in
     let many-up : length (with_items f.inbound c.take_up.new.lists).items ≡ length f.inbound.items = ap length up-lists ∙ up.count ∙ ap length c.deref_mut-2.ensures.value in
@@ -115,7 +115,7 @@ invariant_of-result c =
     let each : AreSortedByShard m.config shard.bounds.items after.traffic.lists.sent.items c.sort_sent.new.lists =
     subst (λ (x : Vec ℕ Global). AreSortedByShard m.config x.items after.traffic.lists.sent.items c.sort_sent.new.lists) bounds
     (subst (λ (x : Arc Machine Global). AreSortedByShard (arc_value x).config after.bounds.items after.traffic.lists.sent.items c.sort_sent.new.lists) machine sorted_by_shard-after) in
-    let ends = job-ends m shard.bounds.items f.name c.in_ok-wake.wake shard after f.inbound.items c.sort_sent.new.lists c.self.invariant machine bounds first count gone sent went.since went.sleep went.arrivals many each in
+    let ends = job-ends m shard.bounds.items f.name c.in_ok-wake.wake shard after f.inbound.items c.sort_sent.new.lists c.self.invariant machine bounds first count has_run sent went.since went.sleep went.arrivals many each in
     subst (IsDone (arc_value after.machine) after.bounds.items f.name c.in_ok-wake.wake after) (sym lists)
     (subst (λ (x : Vec ℕ Global). IsDone (arc_value after.machine) x.items f.name c.in_ok-wake.wake after c.sort_sent.new.lists) (sym bounds)
     (subst (λ (x : Arc Machine Global). IsDone (arc_value x) shard.bounds.items f.name c.in_ok-wake.wake after c.sort_sent.new.lists) (sym machine) ends))

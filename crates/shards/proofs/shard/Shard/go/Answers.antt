@@ -5,7 +5,7 @@ use Rattle.units.proofs.LeastWord.{least-all, least-since}
 use Rattle.sim_base.specs.declared.message.Message.{Message}
 use Rattle.units.specs.Flight.{sent_by}
 use Rattle.units.specs.declared.machine.Machine.{Machine}
-use Rattle.shards.proofs.Jobs.{gone-words, part-late}
+use Rattle.shards.proofs.Jobs.{has_run-words, part-late}
 use Rattle.shards.proofs.shard.Shard.go.Goals as goal
 
 pub returns-clause-since : goal.returns-clause-since
@@ -16,12 +16,12 @@ returns-clause-since c =
     let until = c.args.until in
     let range = c.go_all.new.range in
     let traffic = c.go_all.new.traffic in
-    let gone = c.in_ok-go_all.ensures in
+    let has_run = c.in_ok-go_all.ensures in
     let later : All (λ w. until ≤ w) c.deref-3.result.now =
-    subst (All (λ w. until ≤ w)) (sym c.deref-3.ensures.value) (gone-words c.deref.result.now range.first now until range.units.items range.words.items traffic.links gone.gone) in
+    subst (All (λ w. until ≤ w)) (sym c.deref-3.ensures.value) (has_run-words c.deref.result.now range.first now until range.units.items range.words.items traffic.links has_run.has_run) in
     let sent : c.deref-2.result.now ≡ sent_by m now until old.range.first (length old.range.units.items) =
     c.deref-2.ensures.value
-    ∙ subst (λ (y : Machine). traffic.lists.sent.items ≡ sent_by y now until old.range.first (length old.range.units.items)) c.deref.ensures gone.sent in
+    ∙ subst (λ (y : Machine). traffic.lists.sent.items ≡ sent_by y now until old.range.first (length old.range.units.items)) c.deref.ensures has_run.sent in
     let arrive : All (λ m. until ≤ m.arrival) c.deref-2.result.now =
     subst (All (λ (y : Message). until ≤ y.arrival)) (sym sent)
     (part-late m now until old.range.first (length old.range.units.items) c.requires.asleep.within (omega (arith, c.requires.order)) c.requires.travels) in

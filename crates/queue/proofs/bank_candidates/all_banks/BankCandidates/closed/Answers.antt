@@ -4,4 +4,4 @@ use Rattle.queue.proofs.bank_candidates.all_banks.BankCandidates.closed.Goals as
 
 pub returns-clause-stands : goal.returns-clause-stands
 returns-clause-stands c log open_rows stands =
-    subst (λ n. StandsFor c.close.new.self log (with_row n None open_rows)) c.number_of.ensures (c.close.ensures.stands log open_rows stands)
+    subst (λ n. StandsFor c.close.new.self log (with_row n None open_rows)) c.number.ensures (c.close.ensures.stands log open_rows stands)

@@ -1,5 +1,6 @@
 -- Some request of an access may be served where some bank has a candidate of it.
-use Rattle.std.proofs.Common.{◌≡◌, ℕ, ◌<◌, Bool, true, false, not, ◌&&◌, eqb, refl, sym, ap, ◌∙◌, inl, inr}
+use Rattle.std.proofs.Common.{◌≡◌, ℕ, ◌<◌, not, ◌&&◌, eqb, sym, ap, ◌∙◌, inl, inr}
+use Rattle.std.proofs.Math.Bool.{and-false}
 use Rattle.std.proofs.lemmas.Bool.{cases_Bool}
 use Rattle.std.specs.Option.{is_some}
 use Rattle.sim_base.specs.Access.{is_access}
@@ -10,10 +11,6 @@ use Rattle.queue.specs.Sets.{is_in}
 use Rattle.sim_base.proofs.Lists.{none-is}
 use Rattle.queue.proofs.SomeAccess.{oldest_is, some_wider, none_at_all}
 use Rattle.queue.proofs.bank_candidates.all_banks.BankCandidates.has_access.Goals as goal
-
-never : (b : Bool) → (b && false) ≡ false
-never true = refl
-never false = refl
 
 pub returns : goal.returns
 returns c log open_rows stands =
@@ -33,5 +30,5 @@ returns c log open_rows stands =
           let bank = found.0 in
           let exists = c.banks_with_candidate.ensures.within bank found.2 in
           ap not some
-          ∙ sym (some_wider (asks bank access) (λ r. is_access access r.access) log (λ x none. ap (λ b. eqb (bank_number x.place) bank && b) none ∙ never (eqb (bank_number x.place) bank)) (sym (oldest bank exists) ∙ found.2))
+          ∙ sym (some_wider (asks bank access) (λ r. is_access access r.access) log (λ x none. ap (λ b. eqb (bank_number x.place) bank && b) none ∙ and-false (eqb (bank_number x.place) bank)) (sym (oldest bank exists) ∙ found.2))
     ]

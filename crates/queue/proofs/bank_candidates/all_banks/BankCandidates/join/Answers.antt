@@ -19,7 +19,7 @@ use Rattle.queue.proofs.Counted.{requests_few}
 follows : (older : List Arrived) (a : Arrived) (eligible : Bool) → a.waits ≡ true → eligible ≡ not (asks_for_line a.request.place (waiting_requests older)) → may_follow older a ≡ eligible
 follows older a eligible waits is = ap (λ b. b && not (asks_for_line a.request.place (waiting_requests older))) waits ∙ sym is
 
--- its counter, once it was counted
+-- the counter of a request, once the request was counted
 counted_more : (counts : List ℕ) (older : List Arrived) (a : Arrived) (number more : ℕ) → a.waits ≡ true → number ≡ access_number_of a.request → access_number_of a.request < length counts
     → length older < 2 ^ 16 - 1 → more ≡ min (get_or counts number 0 + 1) 65535 → AreCounted counts (waiting_requests older)
     → AreCounted (set counts number more) (waiting_requests (older ++ a ∷ []))

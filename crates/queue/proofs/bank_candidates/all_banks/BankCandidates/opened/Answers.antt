@@ -14,10 +14,10 @@ pub invariant_of-self : goal.invariant_of-self
 invariant_of-self c =
     let old = c.args.self.now in
     let rows = old.rows.items in
-    let long = length-set rows c.number_of-number.result (Some c.args.row) in
+    let long = length-set rows c.number-number.result (Some c.args.row) in
     record {
       few = subst (λ n. n ≤ 64) (sym long) old.few;
-      open_are = opened_are rows old.open_banks c.with-self.result c.number_of-number.result (Some c.args.row) (subst (λ n. n < length rows) (sym c.number_of-number.ensures) c.requires) old.open_are c.with-self.ensures.same c.with-self.ensures.others;
+      open_are = opened_are rows old.open_banks c.with-self.result c.number-number.result (Some c.args.row) (subst (λ n. n < length rows) (sym c.number-number.ensures) c.requires) old.open_are c.with-self.ensures.same c.with-self.ensures.others;
       all_places = c.open-2.ensures.room ∙ c.open.ensures.room ∙ old.all_places ∙ sym (ap (λ n. 4 * n) long);
       all_counts = old.all_counts ∙ sym (ap (λ n. 2 * n) long);
     }
@@ -26,9 +26,9 @@ pub returns-clause-stands : goal.returns-clause-stands
 returns-clause-stands c open_rows stands =
     let old = c.args.self.now in
     let log = c.args.log.now.log in
-    let number = c.number_of-number.result in
+    let number = c.number-number.result in
     let row = Some c.args.row in
-    let exists : number < length old.rows.items = subst (λ n. n < length old.rows.items) (sym c.number_of-number.ensures) c.requires in
+    let exists : number < length old.rows.items = subst (λ n. n < length old.rows.items) (sym c.number-number.ensures) c.requires in
     let words = c.open-2.new.self.words.items in
     let parts = to_parts old log open_rows stands in
     let reads : AreFirst log number access.Read row (access_in words (access_number number access.Read)) =
@@ -44,6 +44,6 @@ returns-clause-stands c open_rows stands =
     c.open-2.ensures.others (access_number other a) (λ e. apart (number_bank other number a access.Write e))
     ∙ c.open.ensures.others (access_number other a) (λ e. apart (number_bank other number a access.Read e)) in
     from_parts _ log _
-    (subst (λ n. AreStanding (set old.rows.items number row) words log (with_row n row open_rows)) c.number_of-number.ensures
+    (subst (λ n. AreStanding (set old.rows.items number row) words log (with_row n row open_rows)) c.number-number.ensures
     (row_stand old.rows.items old.places.words.items words log open_rows number row exists own others parts))
     stands.counts_are

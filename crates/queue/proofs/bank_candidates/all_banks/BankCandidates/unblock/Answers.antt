@@ -6,7 +6,7 @@ use Rattle.sim_base.specs.declared.message.Request.{Request}
 use Rattle.queue.specs.Log.{absent}
 use Rattle.queue.specs.Columns.{bank_number}
 use Rattle.queue.specs.Candidates.{access_number, access_number_of}
-use Rattle.queue.specs.Moves.{earlier}
+use Rattle.sim_base.specs.Earlier.{earlier}
 use Rattle.queue.specs.Places.{candidate_in}
 use Rattle.queue.proofs.Stood.{from_parts, unblocked_stand}
 use Rattle.queue.proofs.bank_candidates.all_banks.BankCandidates.unblock.Goals as goal

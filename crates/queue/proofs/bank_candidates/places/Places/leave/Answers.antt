@@ -3,7 +3,8 @@ use Rattle.std.proofs.Common.{◌≡◌, ℕ, ◌+◌, ◌≢◌, List, Option, 
 use Rattle.sim_base.specs.declared.message.Access.{Access}
 use Rattle.queue.specs.declared.request_log.Arrived.{Arrived}
 use Rattle.queue.specs.Candidates.{asks, hits, wants, first_place}
-use Rattle.queue.specs.Moves.{earlier, NoneBefore}
+use Rattle.queue.specs.Moves.{NonePassesBefore}
+use Rattle.sim_base.specs.Earlier.{earlier}
 use Rattle.queue.specs.Served.{passing, IsServed}
 use Rattle.queue.proofs.OneBank.{never_hits, hits_narrower}
 use Rattle.queue.proofs.Searches.{none_everywhere, none_narrower_all}
@@ -14,7 +15,7 @@ use Rattle.queue.proofs.bank_candidates.places.Places.leave.Goals as goal
 -- the first hit that is left: no request hits where no row is open
 left_hit : (bank : ℕ) (access : Access) (row : Option ℕ) (was log : List Arrived) (place : ℕ) (unblocked : Option ℕ) (old new : Option ℕ) → IsServed was place unblocked log
     → old ≡ first_place (hits bank access row) was → (old ≢ Some place → new ≡ old)
-    → (old ≡ Some place → NoneBefore (wants bank access row) log (place + 1) → new ≡ first_place (wants bank access row) log)
+    → (old ≡ Some place → NonePassesBefore (wants bank access row) log (place + 1) → new ≡ first_place (wants bank access row) log)
     → earlier new (passing (hits bank access row) log unblocked) ≡ first_place (hits bank access row) log
 left_hit bank access None was log place unblocked old new served is kept found =
     let never : None ≡ old = none_everywhere (hits bank access None) was (never_hits bank access) ∙ sym is in

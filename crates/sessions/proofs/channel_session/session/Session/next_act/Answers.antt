@@ -1,5 +1,6 @@
 use Rattle.std.proofs.Common.{◌∙◌, sym, ap, subst}
-use Rattle.sessions.specs.Ahead.{earlier, first_arrival, IsNextAct}
+use Rattle.sessions.specs.Ahead.{first_arrival, IsNextAct}
+use Rattle.sim_base.specs.Earlier.{earlier}
 use Rattle.sessions.specs.Keeps.{steps_of}
 use Rattle.sessions.proofs.Advancing.{keeps-at}
 use Rattle.sessions.proofs.Ahead.{next-act}

@@ -5,8 +5,8 @@ use Rattle.shards.specs.Jobs.{JobView, IsDone}
 use Rattle.shards.specs.Phases.{jobs_of}
 use Rattle.units.proofs.Standing.{all-yielded}
 use Rattle.shards.proofs.Placing.{there, there-nothing, there-some, there-none, there-all}
-use Rattle.shards.proofs.Unloading.{AreTaken, taken-none, taken-push, taken-all}
-use Rattle.shards.proofs.merging.unload.Goals as goal
+use Rattle.shards.proofs.TakingApart.{AreTaken, taken-none, taken-push, taken-all}
+use Rattle.shards.proofs.merging.take_apart.Goals as goal
 
 pub loop-place-init : goal.loop-place-init
 loop-place-init c = (
@@ -34,7 +34,7 @@ loop-place-preserved c =
     let those = ap (λ z. there (at.yielded ++ z ∷ [])) c.in-Some-place.is ∙ there-some at.yielded v in (
       append_assoc at.yielded (x ∷ []) _ ∙ ap (λ z. at.yielded ++ z) (sym steps.0) ∙ at.invariant.0,
       let was = at.invariant.1 in
-          let gone = steps.1 in
+          let remaining = steps.1 in
           let short = ap length steps.0 in
           omega arith,
       subst (λ z. AreTaken c.min-first.result z c.push.new.self.items c.push-in-loop-place.new.self.items) (sym those)
@@ -50,7 +50,7 @@ loop-place-preserved-in_default c =
     let those = ap (λ z. there (at.yielded ++ z ∷ [])) c.in_default.is ∙ there-none at.yielded in (
       append_assoc at.yielded (x ∷ []) _ ∙ ap (λ z. at.yielded ++ z) (sym steps.0) ∙ at.invariant.0,
       let was = at.invariant.1 in
-          let gone = steps.1 in
+          let remaining = steps.1 in
           let short = ap length steps.0 in
           omega arith,
       subst (λ z. AreTaken at.first z at.shards.items at.outbound.items) (sym those) at.invariant.2,

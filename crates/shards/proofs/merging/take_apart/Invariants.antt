@@ -2,8 +2,8 @@
 use Rattle.std.proofs.Common.{◌≡◌, ◌++◌, length}
 use Rattle.std.specs.Vec.Iter.{into_iter_items, into_iter_len}
 use Rattle.shards.proofs.Placing.{there}
-use Rattle.shards.proofs.Unloading.{AreTaken}
-use Rattle.shards.proofs.merging.unload.Given as goal
+use Rattle.shards.proofs.TakingApart.{AreTaken}
+use Rattle.shards.proofs.merging.take_apart.Given as goal
 
 abbrev pub invariant-loop-place : goal.invariant-loop-place
 invariant-loop-place l =

@@ -15,7 +15,7 @@ use Rattle.units.specs.declared.machine.Machine.{Machine}
 use Rattle.shards.specs.Lists.{lists_of}
 use Rattle.shards.specs.Shards.{IsAtRest, sent_of_shard}
 use Rattle.shards.specs.Jobs.{JobView, IsDone}
-use Rattle.shards.specs.Phases.{PhaseView, AreUnloaded, job_of, jobs_of}
+use Rattle.shards.specs.Phases.{PhaseView, AreTakenApart, job_of, jobs_of}
 use Rattle.shards.specs.declared.shard.Shard.{Shard}
 
 -- what a result holds that was taken apart, and a cycle that is no later than its own
@@ -47,7 +47,7 @@ taken-same first v w d x e y f g h t =
     subst (λ (z : JobView). IsTaken first z d.value e.items) (sym f)
     (subst (λ (z : Box Shard Global). IsTaken first w z.value e.items) (sym g) (subst (λ (z : Vec (Vec Message Global) Global). IsTaken first w x.value z.items) (sym h) t))
 
--- one more result is taken apart
+-- one more result of a phase is taken apart
 pub taken-push : (first wake least : ℕ) (views : List JobView) (shards : List (Box Shard Global)) (outbound : List (Vec (Vec Message Global) Global))
     (view : JobView) (shard : Box Shard Global) (lists : Vec (Vec Message Global) Global) → least ≡ min first wake
     → AreTaken first views shards outbound → IsDone view.machine view.bounds view.name wake shard.value lists.items
@@ -82,7 +82,7 @@ rest-lower : (machine : Machine) (bounds : List ℕ) (index from until wake leas
     → IsAtRest machine bounds index from until wake shard → IsAtRest machine bounds index from until least shard
 rest-lower machine bounds index from until wake least shard since h r = record {
   is = r.is;
-  gone = r.gone;
+  has_run = r.has_run;
   since = since;
   sleep = All-weaker (λ word. wake ≤ word) (λ word. least ≤ word) (λ word k. omega arith) shard.range.words.items r.sleep;
   arrivals = All-weaker (λ (m : Message). wake ≤ m.arrival) (λ (m : Message). least ≤ m.arrival) (λ m k. omega arith) (sent_of_shard machine from until shard) r.arrivals;
@@ -95,7 +95,7 @@ some-element (x ∷ xs) i l = x
 
 -- results of the jobs of a phase, in their order, are taken apart
 pub taken-all : (p : PhaseView) (first : ℕ) (views : List JobView) (shards : List (Box Shard Global)) (outbound : List (Vec (Vec Message Global) Global)) → AreTaken first views shards outbound
-    → p.until ≤ 10 ^ 12 → views ≡ jobs_of p → AreUnloaded p first shards outbound
+    → p.until ≤ 10 ^ 12 → views ≡ jobs_of p → AreTakenApart p first shards outbound
 taken-all p first views shards outbound h early are = record {
   since = since;
   count = h.shard_count ∙ ap length are;

@@ -3,7 +3,7 @@ use Rattle.std.proofs.Common.{sym, ap, ◌∙◌}
 use Rattle.sim_base.specs.Rules.{open_row, is_row}
 use Rattle.sim_base.proofs.Lists.{eqb-swap}
 use Rattle.channel_step.proofs.FrFcfs.Legal.{hit_is}
-use Rattle.channel_step.proofs.fr_fcfs.arrivals.is_hit.Goals as goal
+use Rattle.channel_step.proofs.fr_fcfs.arrivals.finds_row_open.Goals as goal
 
 pub returns-in-Some : goal.returns-in-Some
 returns-in-Some c history knows =

@@ -12,7 +12,7 @@ use Rattle.units.specs.Wakes.{AreLowered}
 use Rattle.shards.specs.declared.shard.Shard.{Shard}
 use Rattle.shards.proofs.Setting.{left-next, seam-stop, stop-of_machine, stops}
 use Rattle.shards.proofs.Splitting.{AreMade, made-push}
-use Rattle.shards.proofs.planning.settled.Goals as goal
+use Rattle.shards.proofs.planning.stopped.Goals as goal
 
 pub take_up-requires : goal.take_up-requires
 take_up-requires c =
@@ -40,7 +40,7 @@ loop-shard-preserved c =
     let whole = ap (λ z. at.yielded ++ z) (sym steps.0) ∙ at.invariant.order ∙ c.into_iter-shard-iterator.ensures.into_iter_gives.0 in
     let grown = length-push_suc at.yielded x in
     let items = c.in_ok-push.ensures.items in
-    let len : c.len-index.result ≡ length at.settled.items = search rules in
+    let len : c.len-index.result ≡ length at.stopped.items = search rules in
     let index : c.len-index.result ≡ length at.yielded = len ∙ at.invariant.count in
     let up = c.in_ok-take_up.ensures {u = tt} in
     let old = c.deref_mut.ensures.value in
@@ -58,11 +58,11 @@ loop-shard-preserved c =
       order = append_assoc at.yielded (x ∷ []) _ ∙ ap (λ z. at.yielded ++ z) (sym steps.0) ∙ at.invariant.order;
       finite =
           (let was = at.invariant.finite in
-          let gone = steps.1 in
+          let remaining = steps.1 in
           let short = ap length steps.0 in
           omega arith);
       left = left-next at.yielded x c.len-index.result c.args.inbound.items at.inbound.items _ index at.invariant.left;
-      count = ap length items ∙ length-push_suc at.settled.items _ ∙ ap suc at.invariant.count ∙ sym grown;
+      count = ap length items ∙ length-push_suc at.stopped.items _ ∙ ap suc at.invariant.count ∙ sym grown;
       made = subst (AreMade machine bounds now) (sym items)
-          (made-push machine bounds now at.settled.items _ at.invariant.made (subst (λ n. IsShard machine bounds n new) (sym at.invariant.count) made.0) made.1);
+          (made-push machine bounds now at.stopped.items _ at.invariant.made (subst (λ n. IsShard machine bounds n new) (sym at.invariant.count) made.0) made.1);
     }
