@@ -1,7 +1,7 @@
-// Loaded before the program (LD_PRELOAD), refuses it the memory that it asks for the REFUSE-th time, counted from 1, and where REFUSE_ON is set
-// all that it asks for after that too; and the thread that it starts the REFUSE_THREAD-th time. At the end it writes to the file REFUSE_SAYS how
-// often memory was asked for, how often a file was opened to be written before memory was first refused, how often after, and how often a
-// thread was started or refused.
+// Loaded before the program (LD_PRELOAD), refuses it the memory that it asks for the REFUSE-th time, counted from 1, and
+// where REFUSE_ON is set all that it asks for after that too; and the thread that it starts the REFUSE_THREAD-th time.
+// At the end it writes to the file REFUSE_SAYS how often memory was asked for, how often a file was opened to be written
+// before memory was first refused, how often after, and how often a thread was started or refused.
 #define _GNU_SOURCE
 #include <dlfcn.h>
 #include <errno.h>

@@ -45,8 +45,8 @@ inline const char *text_of(std::uint32_t status) {
     }
 }
 
-// A call that was refused; what it was called on is as it was, but that refused memory in a run closes it. Where a configuration is refused,
-// the text is the line that `dramsim run` tells.
+// A call that was refused; what it was called on is as it was, but that refused memory in a run closes it. Where a
+// configuration is refused, the text is the line that `dramsim run` tells.
 class Refused : public std::runtime_error {
   public:
     explicit Refused(std::uint32_t status) : std::runtime_error(text_of(status)), status(status) {}
@@ -100,7 +100,8 @@ class Channel {
         Reply row;
         return dramsim_next_reply(&channel_, &row) ? std::optional<Reply>(row) : std::nullopt;
     }
-    // The next cycle in which it issues a command, or in which a request that was sent arrives, if nothing more is sent.
+    // The next cycle in which it issues a command, or in which a request that was sent arrives, if nothing more is
+    // sent.
     std::optional<std::uint64_t> next_act() {
         std::uint64_t cycle = 0;
         return dramsim_next_act(&channel_, &cycle) ? std::optional<std::uint64_t>(cycle) : std::nullopt;
@@ -132,8 +133,8 @@ template <typename Row> struct Of {
     Row row;
 };
 
-// A memory: all channels of a machine, open from its construction on. A request goes to the channel of its address. It can be moved and not be
-// copied; one that was moved from is closed.
+// A memory: all channels of a machine, open from its construction on. A request goes to the channel of its address. It
+// can be moved and not be copied; one that was moved from is closed.
 class Memory {
   public:
     explicit Memory(std::string_view configuration) {
@@ -163,7 +164,8 @@ class Memory {
         Of<Reply> next;
         return dramsim_memory_next_reply(&memory_, &next.channel, &next.row) ? std::optional<Of<Reply>>(next) : std::nullopt;
     }
-    // The next cycle in which a channel issues a command, or in which a request that was sent arrives, if nothing more is sent.
+    // The next cycle in which a channel issues a command, or in which a request that was sent arrives, if nothing more
+    // is sent.
     std::optional<std::uint64_t> next_act() {
         std::uint64_t cycle = 0;
         return dramsim_memory_next_act(&memory_, &cycle) ? std::optional<std::uint64_t>(cycle) : std::nullopt;

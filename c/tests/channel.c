@@ -1,5 +1,5 @@
-/* channel CONFIG TWO: drives a channel of examples/profile_s.toml through each call, and a channel of the same machine with two channels, and
- * compares with what was worked out by hand. */
+/* channel CONFIG TWO: drives a channel of examples/profile_s.toml through each call, and a channel of the same machine
+ * with two channels, and compares with what was worked out by hand. */
 #include "common.h"
 
 #include <string.h>

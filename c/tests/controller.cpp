@@ -1,5 +1,5 @@
-// controller CONFIG: the memory controller of a simulator that goes from event to event, as docs/EMBEDDING.md shows it, with cycles worked out by
-// hand for examples/profile_s.toml.
+// controller CONFIG: the memory controller of a simulator that goes from event to event, as docs/EMBEDDING.md shows it,
+// with cycles worked out by hand for examples/profile_s.toml.
 #include "dramsim.hpp"
 
 #include <fstream>
@@ -84,8 +84,8 @@ class Controller {
     std::uint64_t number_ = 0;
 };
 
-// Two reads of one bank and two rows arrive in 2 and 4: their RDs are in 5 and 16, and the data comes nCL + 4 + 2 later. A port that sends two
-// packets in a cycle tries again with the second.
+// Two reads of one bank and two rows arrive in 2 and 4: their RDs are in 5 and 16, and the data comes nCL + 4 + 2
+// later. A port that sends two packets in a cycle tries again with the second.
 static bool answers(const std::string &text) {
     Events events;
     std::map<std::uint64_t, std::uint64_t> answered;
@@ -97,8 +97,9 @@ static bool answers(const std::string &text) {
     return taken && answered == std::map<std::uint64_t, std::uint64_t>{{0, 15}, {1, 26}};
 }
 
-// A port sends a read of one row in each cycle from 0 on. ACT is in 1 and the RDs nCCD_L = 5 apart from 4 on, so before cycle 9 one was served:
-// with 8 places the tenth packet finds none in 9, and is sent when the credit of the second RD comes, in 11.
+// A port sends a read of one row in each cycle from 0 on. ACT is in 1 and the RDs nCCD_L = 5 apart from 4 on, so before
+// cycle 9 one was served: with 8 places the tenth packet finds none in 9, and is sent when the credit of the second RD
+// comes, in 11.
 static bool retries(const std::string &text) {
     Events events;
     std::uint64_t sent = 0, refused_at = 0, sent_at = 0;

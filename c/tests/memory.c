@@ -1,5 +1,5 @@
-/* memory TWO: drives a memory of two channels, of examples/cases/two_channels, through each call, and compares with what was worked out by hand.
- * Line 0 lies in channel 0, line 1 in channel 1. */
+/* memory TWO: drives a memory of two channels, of examples/cases/two_channels, through each call, and compares with
+ * what was worked out by hand. Line 0 lies in channel 0, line 1 in channel 1. */
 #include "common.h"
 
 static void expect_command(struct dramsim_memory *memory, uint32_t channel, uint64_t cycle, uint8_t kind, uint64_t entry) {
@@ -23,7 +23,8 @@ static void expect_reply(struct dramsim_memory *memory, uint32_t channel, uint64
     EXPECT(reply.entry, entry);
 }
 
-/* A read of each channel in cycle 2, and one more of channel 1 in cycle 4, of the row that is open then: nRCD = 3, nCCD_L = 5. */
+/* A read of each channel in cycle 2, and one more of channel 1 in cycle 4, of the row that is open then: nRCD = 3,
+ * nCCD_L = 5. */
 static const struct dramsim_request sent[] = {{0, 2, 0, 0, false}, {64, 2, 1, 0, false}, {192, 4, 2, 0, false}};
 
 /* The arrival in 4, and the commands in the other cycles. */
@@ -43,8 +44,8 @@ static void events(struct dramsim_memory *memory) {
     EXPECT(dramsim_memory_run(memory, 60), DRAMSIM_OK);
 }
 
-/* Commands by cycle and then by channel. Of the next reply of each channel, the one that arrives first: a credit comes 2 after its RD, data
- * nCL + 4 + 2 after it, and a channel sends the data first. */
+/* Commands by cycle and then by channel. Of the next reply of each channel, the one that arrives first: a credit comes
+ * 2 after its RD, data nCL + 4 + 2 after it, and a channel sends the data first. */
 static void rows(struct dramsim_memory *memory) {
     struct dramsim_command command = {.cycle = 7};
     struct dramsim_reply reply = {.arrival = 7};
@@ -82,7 +83,8 @@ static void statistics(struct dramsim_memory *memory) {
     EXPECT(stats.rd, 7);
 }
 
-/* The channel is the lowest digit of a line, and then come 128 columns, 2 groups, 4 banks and the rows: row 1 begins at 2 * 65,536 bytes. */
+/* The channel is the lowest digit of a line, and then come 128 columns, 2 groups, 4 banks and the rows: row 1 begins at
+ * 2 * 65,536 bytes. */
 static void places(struct dramsim_memory *memory) {
     struct dramsim_line_place row, none = {2, 0, 0, 0, 0, 0};
     uint64_t found = 7;

@@ -1,6 +1,6 @@
-/* refused TWO: a memory and a channel of examples/cases/two_channels, with each piece of memory that the library asks for refused in turn. A call
- * that opens or sends leaves all as it was, so it is made again; a run closes what it was called on. To be linked with --wrap=malloc and
- * --wrap=realloc. */
+/* refused TWO: a memory and a channel of examples/cases/two_channels, with each piece of memory that the library asks
+ * for refused in turn. A call that opens or sends leaves all as it was, so it is made again; a run closes what it was
+ * called on. To be linked with --wrap=malloc and --wrap=realloc. */
 #include "common.h"
 
 void *__real_malloc(size_t size);
@@ -62,7 +62,8 @@ static bool plays_channel(const uint8_t *text, size_t length) {
     return true;
 }
 
-/* Refuses each piece of memory in turn, till none is asked for so late. Some of these are asked for in a run, and others before. */
+/* Refuses each piece of memory in turn, till none is asked for so late. Some of these are asked for in a run, and
+ * others before. */
 static void try_each(bool (*plays)(const uint8_t *, size_t), const uint8_t *text, size_t length) {
     unsigned long ended = 0, closed = 0;
     for (refused_at = 1;; refused_at++) {

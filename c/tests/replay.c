@@ -1,5 +1,6 @@
-/* replay CONFIG STEP CYCLES < requests > table: drives the channels of a machine, each by a handle of its own, over CYCLES cycles in steps of
- * STEP cycles, shorter where a credit is waited for, and prints their commands as dramsim writes commands.csv. */
+/* replay CONFIG STEP CYCLES < requests > table: drives the channels of a machine, each by a handle of its own, over
+ * CYCLES cycles in steps of STEP cycles, shorter where a credit is waited for, and prints their commands as dramsim
+ * writes commands.csv. */
 #include "requests.h"
 
 /* The channels, and of each the next command, if there is one. */
@@ -36,7 +37,8 @@ static void take(bool ranks) {
         while (dramsim_next_reply(&all[number].channel, &reply)) {}
 }
 
-/* Sends what arrives before a cycle, and returns the cycle up to which the channels may run: earlier where a credit is waited for. */
+/* Sends what arrives before a cycle, and returns the cycle up to which the channels may run: earlier where a credit is
+ * waited for. */
 static uint64_t send_before(uint64_t until, struct dramsim_request *next, bool *there) {
     while (*there && next->arrival < until) {
         struct dramsim_line_place place;

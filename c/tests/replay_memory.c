@@ -1,5 +1,6 @@
-/* replay_memory CONFIG STEP CYCLES < requests > table: drives all channels of a machine by one handle over CYCLES cycles in steps of STEP cycles,
- * shorter where a credit is waited for, and prints their commands as dramsim writes commands.csv. */
+/* replay_memory CONFIG STEP CYCLES < requests > table: drives all channels of a machine by one handle over CYCLES
+ * cycles in steps of STEP cycles, shorter where a credit is waited for, and prints their commands as dramsim writes
+ * commands.csv. */
 #include "requests.h"
 
 static struct dramsim_memory memory = DRAMSIM_CLOSED_MEMORY;
@@ -20,7 +21,8 @@ static void take(bool ranks) {
     while (dramsim_memory_next_reply(&memory, &channel, &reply)) {}
 }
 
-/* Sends what arrives before a cycle, and returns the cycle up to which the memory may run: earlier where a credit is waited for. */
+/* Sends what arrives before a cycle, and returns the cycle up to which the memory may run: earlier where a credit is
+ * waited for. */
 static uint64_t send_before(uint64_t until, struct dramsim_request *next, bool *there) {
     while (*there && next->arrival < until) {
         uint32_t status = dramsim_memory_send(&memory, next);

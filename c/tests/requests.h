@@ -1,4 +1,5 @@
-/* What the programs that send a file of requests share: how it is read, and how a command is printed as dramsim writes commands.csv. */
+/* What the programs that send a file of requests share: how it is read, and how a command is printed as dramsim writes
+ * commands.csv. */
 #ifndef DRAMSIM_REQUESTS_H
 #define DRAMSIM_REQUESTS_H
 

@@ -2,7 +2,6 @@
 use Rattle.std.proofs.Common.{◌≡◌, ℕ, ◌+◌, ◌/◌, ◌%◌, ◌<◌, ◌≤◌, true, false, List, [], ◌∷◌, length, get_or, drop, refl, inl, inr, add-one, drop-cons, arith, ◌∙◌, sym}
 use Rattle.std.proofs.Math.ListN.{drop_of_length-le}
 use Rattle.std.proofs.lemmas.Bool.{cases_Bool, cases_lt, cond_both}
-use Rattle.std.proofs.lemmas.Nat.{mod_below}
 use Rattle.sim_base.specs.declared.config.Config.{Config}
 use Rattle.sim_base.specs.declared.place.Field.{Field}
 use Rattle.sim_base.specs.declared.place.Field.TheVariants.{Channel, Column, Rank, Group, Bank, Row}
@@ -10,6 +9,7 @@ use Rattle.sim_base.specs.declared.place.Place.{Place}
 use Rattle.sim_base.specs.Fields.{is_field}
 use Rattle.sim_base.specs.Places.{digit_of, field_size, field_of, place_of}
 use Rattle.sim_base.specs.PlaceRange.{PlaceInRange}
+use Rattle.sim_base.proofs.Banks.{digit_below}
 use Rattle.address_map.specs.Digits.{value_of, with_value}
 use Rattle.address_map.proofs.Fields.{is_field-same, value_of-with_same, value_of-with_other, count_of, count_of-here, count_of-later}
 
@@ -107,13 +107,9 @@ size-positive s Group = omega (arith, s.memory_in_range)
 size-positive s Bank = omega arith
 size-positive s Row = omega (arith, s.memory_in_range)
 
+-- a digit of a number is less than the size of its field
 pub digit_of-below : (s : Config) (g : Field) (fs : List Field) (x : ℕ) → digit_of s g fs x < field_size s g
-unfolding digit_of
-digit_of-below s g [] x = size-positive s g
-digit_of-below s g (f ∷ fs) x =
-    cond_both (is_field g f) (x % field_size s g) (digit_of s g fs (x / field_size s f)) (λ v. v < field_size s g)
-    (λ e. mod_below x (field_size s g) (size-positive s g))
-    (λ e. digit_of-below s g fs (x / field_size s f))
+digit_of-below s g fs x = digit_below s g fs x (size-positive s g)
 
 -- each address lies in the memory
 pub place_of-in_range : (s : Config) (address : ℕ) → PlaceInRange s (place_of s address)

@@ -47,7 +47,8 @@ verdict_line Legal = codes "legal\n"
 verdict_line (Broken row rule) = codes "broken row " ++ decimal row ++ codes " rule " ++ decimal rule ++ codes "\n"
 
 -- the verdict was printed
-pub record IsChecked (config commands : List ℕ) (found : Verdict) (held : Held) (is_printed : List ℕ → Type 0) : Type 0 where
+pub record IsChecked (config commands : List ℕ) (found : Verdict) (held : Held) (is_printed : List ℕ → Type 0)
+    : Type 0 where
   pub judged : IsVerdict config commands held found
   pub printed : is_printed (verdict_line found)
 
@@ -86,7 +87,8 @@ pub record IsStatsOf (path : List ℕ) (held : Held) (stats : RunStats) : Type 0
 
 -- a folder has the table of statistics, a configuration that is named is one that they fit, and their screen was
 -- printed, with that of the requests where the folder has their table too
-pub record IsShown (dir : List ℕ) (config : Option (List ℕ)) (options : Options) (held : Held) (is_printed : List ℕ → Type 0) : Type 0 where
+pub record IsShown (dir : List ℕ) (config : Option (List ℕ)) (options : Options) (held : Held)
+    (is_printed : List ℕ → Type 0) : Type 0 where
   pub stats : RunStats
   pub machine : Option Config
   pub requests : Option (List RequestTimes)
@@ -113,7 +115,8 @@ pub record AreStatsOf (dirs : List (List ℕ)) (held : Held) (runs : List RunSta
 
 -- each folder has the table of statistics, and their comparison was printed, with p99 of the read latencies where each
 -- has a table of requests
-pub record IsCompared (dirs : List (List ℕ)) (layout : Layout) (held : Held) (is_printed : List ℕ → Type 0) : Type 0 where
+pub record IsCompared (dirs : List (List ℕ)) (layout : Layout) (held : Held) (is_printed : List ℕ → Type 0)
+    : Type 0 where
   pub runs : List RunStats
   pub tails : List (Option ℕ)
   pub runs_are : AreStatsOf dirs held runs

@@ -15,7 +15,8 @@ use Rattle.answers.specs.Requests.{requests_path, AreRequestsAt, IsRunBanksScree
 
 -- a folder has the tables of a run, a configuration that is named is one that it fits, each command is of the run, and
 -- the screen of the run was printed with its banks, and with its requests where the folder has their table too
-pub record IsShownWithBanks (dir : List ℕ) (config : Option (List ℕ)) (options : Options) (held : Held) (is_printed : List ℕ → Type 0) : Type 0 where
+pub record IsShownWithBanks (dir : List ℕ) (config : Option (List ℕ)) (options : Options) (held : Held)
+    (is_printed : List ℕ → Type 0) : Type 0 where
   pub stats : RunStats
   pub machine : Option Config
   pub commands : List IssuedCommand

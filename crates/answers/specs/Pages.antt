@@ -26,12 +26,14 @@ use Rattle.answers.specs.Named.{IsConfigured}
 use Rattle.answers.specs.Requests.{requests_path, AreRequestsAt}
 
 -- one table has just the records of the statistics, and the other just those of the commands
-pub record AreTablesIn (stats_table commands_table : List ℕ) (stats : RunStats) (commands : List IssuedCommand) : Type 0 where
+pub record AreTablesIn (stats_table commands_table : List ℕ) (stats : RunStats) (commands : List IssuedCommand)
+    : Type 0 where
   pub rows_are : records_of stats_table ≡ stats_header ∷ stats_rows stats
   pub commands_are : IsCommandTable (records_of commands_table) commands
 
 -- the tables that two files hold are those of these statistics and commands
-pub record AreTablesAt (stats_path commands_path : List ℕ) (held : Held) (stats : RunStats) (commands : List IssuedCommand) : Type 0 where
+pub record AreTablesAt (stats_path commands_path : List ℕ) (held : Held) (stats : RunStats)
+    (commands : List IssuedCommand) : Type 0 where
   pub stats_table : List ℕ
   pub commands_table : List ℕ
   pub stats_is : held stats_path ≡ Some stats_table
@@ -62,7 +64,8 @@ IsNoCommands table stats fault = IsRefusedFor HoldsCommands (records_of table) f
 -- the folder has the tables of a run, a configuration that is named is one that it fits, each command is of the run, so
 -- is a table of requests, where there is one, the file is a new one that holds a whole document, nothing else has
 -- changed, and a page of more than 50 MB is warned of
-pub record IsPageDone (dir file : List ℕ) (config : Option (List ℕ)) (warning : Option LargePage) (old new : Held) : Type 0 where
+pub record IsPageDone (dir file : List ℕ) (config : Option (List ℕ)) (warning : Option LargePage) (old new : Held)
+    : Type 0 where
   pub stats : RunStats
   pub commands : List IssuedCommand
   pub requests : Option (List RequestTimes)

@@ -151,7 +151,8 @@ HoldRunTables _ stats = ⊥
 -- ---- the requests in the folder of a run, which are looked at where its texts are right
 
 -- the texts hold these statistics, and the requests in the folder are refused
-pub record IsFaultBeside (holds : RunStats → Type 0) (tells : Type 0) (held : Held) (dir : List ℕ) (fault : Fault) : Type 0 where
+pub record IsFaultBeside (holds : RunStats → Type 0) (tells : Type 0) (held : Held) (dir : List ℕ) (fault : Fault)
+    : Type 0 where
   pub stats : RunStats
   pub run : holds stats
   pub refused : AreRequestsRefused tells held (requests_path dir) stats fault
@@ -216,13 +217,15 @@ abbrev pub IsFilesFault : Type 0 → Held → List (List ℕ) → Fault → Type
 IsFilesFault tells held paths fault = (fault ≡ Memory) ⊎ ((fault ≡ Read) × LacksOne tells held paths)
 
 -- each file was read, and the texts have this fault
-pub record IsFoundFault (tells : Type 0) (held : Held) (paths : List (List ℕ)) (is_fault : List (List ℕ) → Fault → Type 0) (fault : Fault) : Type 0 where
+pub record IsFoundFault (tells : Type 0) (held : Held) (paths : List (List ℕ))
+    (is_fault : List (List ℕ) → Fault → Type 0) (fault : Fault) : Type 0 where
   pub texts : List (List ℕ)
   pub read : AreTexts tells held paths texts
   pub fault_is : is_fault texts fault
 
 -- each file was read, and the texts have no fault
-pub record IsReady (tells : Type 0) (held : Held) (paths : List (List ℕ)) (is_right : List (List ℕ) → Type 0) : Type 0 where
+pub record IsReady (tells : Type 0) (held : Held) (paths : List (List ℕ)) (is_right : List (List ℕ) → Type 0)
+    : Type 0 where
   pub texts : List (List ℕ)
   pub read : AreTexts tells held paths texts
   pub right : is_right texts

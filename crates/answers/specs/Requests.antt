@@ -68,7 +68,8 @@ IsRequestsFault (Some table) stats fault = IsNoRequests table stats fault
 IsRequestsFault None stats fault = fault ≡ Memory
 
 -- why the file of a table of requests gives none of the run, by what it holds, where the set of files tells
-pub record AreRequestsRefused (tells : Type 0) (held : Held) (path : List ℕ) (stats : RunStats) (fault : Fault) : Type 0 where
+pub record AreRequestsRefused (tells : Type 0) (held : Held) (path : List ℕ) (stats : RunStats) (fault : Fault)
+    : Type 0 where
   pub found : Option (List ℕ)
   pub found_is : tells → held path ≡ found
   pub fault_is : IsRequestsFault found stats fault
@@ -85,7 +86,8 @@ AddsRequests stats options requests old new =
     (more : List ℕ) × (new ≡ old ++ more) × AreShown stats options requests more
 
 -- the screen of a run, and behind it what there is to say of its requests
-pub record IsRunScreen (stats : RunStats) (options : Options) (machine : Option Config) (requests : Option (List RequestTimes)) (text : List ℕ) : Type 0 where
+pub record IsRunScreen (stats : RunStats) (options : Options) (machine : Option Config)
+    (requests : Option (List RequestTimes)) (text : List ℕ) : Type 0 where
   pub above : List ℕ
   pub below : List ℕ
   pub screen : IsScreen stats options machine above
@@ -93,7 +95,8 @@ pub record IsRunScreen (stats : RunStats) (options : Options) (machine : Option 
   pub text_is : text ≡ above ++ below
 
 -- the screen of a run, and behind it what there is to say of the requests that a path holds
-pub record IsScreenAt (found : Option (List ℕ)) (stats : RunStats) (options : Options) (machine : Option Config) (text : List ℕ) : Type 0 where
+pub record IsScreenAt (found : Option (List ℕ)) (stats : RunStats) (options : Options) (machine : Option Config)
+    (text : List ℕ) : Type 0 where
   pub requests : Option (List RequestTimes)
   pub requests_are : AreRequestsAt found stats requests
   pub screen : IsRunScreen stats options machine requests text
@@ -110,7 +113,8 @@ pub record IsRunBanksScreen
   pub text_is : text ≡ above ++ below
 
 -- the screen of a run and its banks, and behind it what there is to say of the requests that a path holds
-pub record IsBanksScreenAt (found : Option (List ℕ)) (stats : RunStats) (commands : List IssuedCommand) (options : Options) (machine : Option Config) (text : List ℕ) : Type 0 where
+pub record IsBanksScreenAt (found : Option (List ℕ)) (stats : RunStats) (commands : List IssuedCommand)
+    (options : Options) (machine : Option Config) (text : List ℕ) : Type 0 where
   pub requests : Option (List RequestTimes)
   pub requests_are : AreRequestsAt found stats requests
   pub screen : IsRunBanksScreen stats commands options machine requests text
@@ -132,7 +136,8 @@ HaveRequests dirs held runs count =
     → HoldsRequestsOf (held (requests_path dir)) run
 
 -- the requests in a folder are refused, and each folder before it has requests of its run
-pub record IsFolderRefused (tells : Type 0) (held : Held) (dirs : List (List ℕ)) (runs : List RunStats) (fault : Fault) : Type 0 where
+pub record IsFolderRefused (tells : Type 0) (held : Held) (dirs : List (List ℕ)) (runs : List RunStats) (fault : Fault)
+    : Type 0 where
   pub place : ℕ
   pub dir : List ℕ
   pub run : RunStats
@@ -157,7 +162,8 @@ IsTailIn found stats (Some tail) = IsTailAt found stats tail
 IsTailIn found stats None = found ≡ None
 
 -- the folder of each run has requests, and these are their 99th percentiles
-pub record HaveTails (dirs : List (List ℕ)) (held : Held) (runs : List RunStats) (tails : List (Option ℕ)) : Type 0 where
+pub record HaveTails (dirs : List (List ℕ)) (held : Held) (runs : List RunStats) (tails : List (Option ℕ))
+    : Type 0 where
   pub count : length tails ≡ length dirs
   pub tails_are : (k : ℕ) (dir : List ℕ) (run : RunStats) (tail : Option ℕ) → slice_get dirs k ≡ Some dir
       → slice_get runs k ≡ Some run → slice_get tails k ≡ Some tail

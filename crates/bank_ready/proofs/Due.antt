@@ -72,7 +72,7 @@ first_due counts now fewest next some least is =
           let early : cycle < (fewest + 1) * interval = omega arith in
           let few : cycle / interval < fewest + 1 = (div-lt_iff_lt-mul some).1 early in
           find-none (λ rank. ltb 0 (owed counts rank cycle)) 0 counts.ranks
-          (λ rank l. le-ltb 0 _ (omega (arith, owed_is counts rank cycle some, few, least.at_most rank (omega arith))));
+          (λ rank from l. le-ltb 0 _ (omega (arith, owed_is counts rank cycle some, few, least.at_most rank (omega arith))));
     }
 
 -- the first cycle with a refresh due by the counts is the first with one due by the commands that the counts stand for
@@ -157,8 +157,8 @@ stands_without_refresh counts s history i other stands = record {
 }
 
 -- Some refresh is due from the cycle on that follows the last with none.
-pub next_is_first : (counts : RefreshCounts) (now none_until next : ℕ) → 0 < counts.interval → NoneIsDueTo counts none_until → next ≡ max now (none_until + 1) → IsFirstDue (lowest_owed counts) now next
-next_is_first counts now none_until next some is latest =
+pub next_is_first : (counts : RefreshCounts) (now none_due_to next : ℕ) → 0 < counts.interval → NoneIsDueTo counts none_due_to → next ≡ max now (none_due_to + 1) → IsFirstDue (lowest_owed counts) now next
+next_is_first counts now none_due_to next some is latest =
     let ends = is.ends some in
     first_due counts now ends.0 next some ends.1 (latest ∙ ap (max now) ends.2)
 
@@ -167,17 +167,17 @@ some_is None never = cc
 some_is (Some k) some = refl
 
 -- whether some refresh is due by a cycle
-pub due_by_is : (counts : RefreshCounts) (none_until cycle : ℕ) → cycle ≤ 18446744073709551615 → NoneIsDueTo counts none_until → is_some (lowest_owed counts cycle) ≡ ltb none_until cycle
-due_by_is counts none_until cycle fits is = elim (cases_lt 0 counts.interval) [
-  | inl some ↦ elim (cases_lt none_until cycle) [
-    | inl after ↦ some_is (lowest_owed counts cycle) (next_is_first counts cycle none_until cycle some is (omega arith)).due ∙ sym (lt-ltb none_until cycle after)
+pub due_by_is : (counts : RefreshCounts) (none_due_to cycle : ℕ) → cycle ≤ 18446744073709551615 → NoneIsDueTo counts none_due_to → is_some (lowest_owed counts cycle) ≡ ltb none_due_to cycle
+due_by_is counts none_due_to cycle fits is = elim (cases_lt 0 counts.interval) [
+  | inl some ↦ elim (cases_lt none_due_to cycle) [
+    | inl after ↦ some_is (lowest_owed counts cycle) (next_is_first counts cycle none_due_to cycle some is (omega arith)).due ∙ sym (lt-ltb none_due_to cycle after)
     | inr before ↦
-        ap is_some ((next_is_first counts 0 none_until (none_until + 1) some is (omega arith)).none_before cycle (omega arith) (omega arith)) ∙ sym (le-ltb none_until cycle before)
+        ap is_some ((next_is_first counts 0 none_due_to (none_due_to + 1) some is (omega arith)).none_before cycle (omega arith) (omega arith)) ∙ sym (le-ltb none_due_to cycle before)
   ]
   | inr none ↦
       let never : counts.interval ≡ 0 = omega arith in
-      ap is_some (find-none (λ rank. ltb 0 (owed counts rank cycle)) 0 counts.ranks (λ rank l. ap (ltb 0) (cond-true (eqb counts.interval 0) 0 _ (eq-eqb counts.interval 0 never))))
-      ∙ sym (le-ltb none_until cycle (omega (arith, is.never never)))
+      ap is_some (find-none (λ rank. ltb 0 (owed counts rank cycle)) 0 counts.ranks (λ rank from l. ap (ltb 0) (cond-true (eqb counts.interval 0) 0 _ (eq-eqb counts.interval 0 never))))
+      ∙ sym (le-ltb none_due_to cycle (omega (arith, is.never never)))
 ]
 
 -- where a refresh is due, there are refreshes
@@ -242,11 +242,11 @@ ends_fit counts rank now fewest before exists four fits due least reached =
     (omega arith, omega (arith, before.interval_in))
 
 -- the last cycle with nothing due after that refresh
-pub counted_more : (counts : RefreshCounts) (rank now fewest none_until : ℕ) → IsCountable counts → rank < counts.ranks → length counts.issued ≡ 4 → now < 2 ^ 62 → 0 < owed counts rank now
+pub counted_more : (counts : RefreshCounts) (rank now fewest none_due_to : ℕ) → IsCountable counts → rank < counts.ranks → length counts.issued ≡ 4 → now < 2 ^ 62 → 0 < owed counts rank now
     → ((k : ℕ) → k < length (take counts.ranks (refreshed counts rank).issued) → fewest ≤ slice_index (take counts.ranks (refreshed counts rank).issued) k)
     → ((k : ℕ) × (k < length (take counts.ranks (refreshed counts rank).issued)) × (slice_index (take counts.ranks (refreshed counts rank).issued) k ≡ fewest))
-    → none_until ≡ (fewest + 1) * counts.interval - 1 → IsCounted (refreshed counts rank) none_until
-counted_more counts rank now fewest none_until before exists four fits due least reached is =
+    → none_due_to ≡ (fewest + 1) * counts.interval - 1 → IsCounted (refreshed counts rank) none_due_to
+counted_more counts rank now fewest none_due_to before exists four fits due least reached is =
     let some = owed_some counts rank now due in
     let same_length = length-set counts.issued rank (slice_index counts.issued rank + 1) in
     let least_now = fewest_is (refreshed counts rank) fewest (omega (arith, before.ranks_in, same_length)) least reached in
@@ -261,7 +261,7 @@ counted_more counts rank now fewest none_until before exists four fits due least
 
 -- where none is due in a cycle, none is in an earlier one
 pub none_owed_before : (counts : RefreshCounts) (cycle now : ℕ) → cycle ≤ now → is_some (lowest_owed counts now) ≡ false → lowest_owed counts cycle ≡ None
-none_owed_before counts cycle now before none = find-none (λ rank. ltb 0 (owed counts rank cycle)) 0 counts.ranks (λ rank l. elim (cases_lt 0 (owed counts rank cycle)) [
+none_owed_before counts cycle now before none = find-none (λ rank. ltb 0 (owed counts rank cycle)) 0 counts.ranks (λ rank from l. elim (cases_lt 0 (owed counts rank cycle)) [
   | inl due_then ↦
       let some = owed_some counts rank cycle due_then in
       let over : (slice_index counts.issued rank + 1) * counts.interval ≤ now = omega (arith, owed_over counts rank cycle due_then) in

@@ -1,32 +1,13 @@
 -- How banks lie to the one with a number, and what a word is raised to by that.
-use Rattle.std.proofs.Common.{◌≡◌, ℕ, ◌/◌, ◌%◌, ◌<◌, ◌≤◌, Bool, true, false, ◌&&◌, cond, eqb, max, refl, sym, ap, ◌∙◌, arith, inl, inr}
-use Rattle.std.proofs.lemmas.Bool.{eqb-true, eq-eqb, ne_eqb, and_from, and_parts, cases_eq, false_from_ne_true}
+use Rattle.std.proofs.Common.{◌≡◌, ℕ, ◌/◌, ◌%◌, ◌≤◌, Bool, true, false, ◌&&◌, cond, eqb, max, refl, sym, ap, ◌∙◌, arith}
+use Rattle.std.proofs.lemmas.Bool.{false_from_ne_true}
 use Rattle.sim_base.specs.declared.place.BankId.{BankId}
 use Rattle.sim_base.specs.declared.command.Relation.{Relation}
 use Rattle.sim_base.specs.declared.command.Relation.TheVariants.{SameBank, SameGroup, OtherGroup, OtherRank}
-use Rattle.sim_base.specs.Places.{is_bank, bank_at, number_of_bank}
+use Rattle.sim_base.specs.Places.{is_bank, bank_at}
 use Rattle.sim_base.proofs.Lists.{eqb-swap}
+use Rattle.sim_base.proofs.Banks.{is_bank_parts}
 use Rattle.bank_ready.specs.Words.{relation_from, group_relation_from}
-
--- a bank with a number is in the rank, the group and the place that its number says
-pub is_bank_parts : (bank : BankId) (k : ℕ) → is_bank (bank_at k) bank ≡ true → (k / 16 ≡ bank.rank) × (k / 4 % 4 ≡ bank.group) × (k % 4 ≡ bank.bank)
-is_bank_parts bank k h =
-    let outer = and_parts _ _ h in
-    let inner = and_parts _ _ outer.0 in
-    (eqb-true _ _ inner.0, eqb-true _ _ inner.1, eqb-true _ _ outer.1)
-
-pub own_number : (bank : BankId) (k : ℕ) → bank.group < 4 → bank.bank < 4 → eqb k (number_of_bank bank) ≡ is_bank (bank_at k) bank
-own_number bank k g b =
-    elim (cases_eq k (number_of_bank bank)) [
-      | inl e ↦
-          let rank : k / 16 ≡ bank.rank = omega arith in
-          let group : k / 4 % 4 ≡ bank.group = omega arith in
-          let last : k % 4 ≡ bank.bank = omega arith in
-          eq-eqb k (number_of_bank bank) e ∙ sym (and_from _ _ (and_from _ _ (eq-eqb _ _ rank) (eq-eqb _ _ group)) (eq-eqb _ _ last))
-      | inr n ↦
-          ne_eqb k (number_of_bank bank) n
-          ∙ sym (false_from_ne_true (is_bank (bank_at k) bank) (λ e. let parts = is_bank_parts bank k e in n (omega (arith, parts.0, parts.1, parts.2))))
-    ]
 
 pub no_group : (bank : BankId) (k : ℕ) → 4 ≤ bank.group → false ≡ is_bank (bank_at k) bank
 no_group bank k g = sym (false_from_ne_true (is_bank (bank_at k) bank) (λ e. let parts = is_bank_parts bank k e in omega (arith, parts.1)))

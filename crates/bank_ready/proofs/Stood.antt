@@ -107,32 +107,32 @@ floor-more u s history i later before after e h raised rank bank =
 
 -- one command more
 pub noted : (banks after : Banks) (s : Config) (history : List IssuedCommand) (i : IssuedCommand) → StandsFor banks s history → All (λ (j : IssuedCommand). j.cycle < i.cycle) history
-    → IsNoted banks after banks.delays.value i.cycle i.command → StandsFor after s (history ++ i ∷ [])
+    → IsNoted banks after banks.gaps.value i.cycle i.command → StandsFor after s (history ++ i ∷ [])
 noted banks after s history i h later e =
     let t = s.timing in
     let n = 16 * s.ranks in
     let more = history ++ i ∷ [] in
     let unused : RankState = record { prea = 0; refresh = 0; window = no_acts } in
     record {
-      timing = ap (λ b. b.value) e.delays ∙ h.timing;
+      timing = ap (λ b. b.value) e.gaps ∙ h.timing;
       ranks = e.rank_count ∙ h.ranks;
       act_words = λ k l.
           let inside : k / 16 < s.ranks = omega arith in
           let state = ap (λ ys. get_or ys (k / 16) unused) h.rank_states ∙ get_or-map-range_with_len (rank_state_from t history) 0 s.ranks (k / 16) (k / 16) unused inside (omega arith) in
-          raised_word (act_word banks) (act_word after) (λ j. max (word_until banks.delays.value i.cycle i.command kind.Act j) (window_word banks i.command j)) (act_word_from t history) s.ranks banks e.act h.ranks k l (h.act_words k l)
+          raised_word (act_word banks) (act_word after) (λ j. max (word_until banks.gaps.value i.cycle i.command kind.Act j) (window_word banks i.command j)) (act_word_from t history) s.ranks banks e.act h.ranks k l (h.act_words k l)
           ∙ ap (λ u. max (act_word_from t history k) (max (word_until u i.cycle i.command kind.Act k) (window_word banks i.command k))) h.timing
           ∙ act_word-more t history i k (window_word banks i.command k) h.ascending (ap (λ (r : RankState). cond (acts_in i.command (k / 16)) r.window.second 0) state);
       rd_words = λ k l.
-          raised_word (rd_word banks) (rd_word after) (word_until banks.delays.value i.cycle i.command kind.Rd) (word_from t history kind.Rd) s.ranks banks e.rd h.ranks k l (h.rd_words k l)
-          ∙ word-more banks.delays.value s history i kind.Rd k h.timing;
+          raised_word (rd_word banks) (rd_word after) (word_until banks.gaps.value i.cycle i.command kind.Rd) (word_from t history kind.Rd) s.ranks banks e.rd h.ranks k l (h.rd_words k l)
+          ∙ word-more banks.gaps.value s history i kind.Rd k h.timing;
       wr_words = λ k l.
-          raised_word (wr_word banks) (wr_word after) (word_until banks.delays.value i.cycle i.command kind.Wr) (word_from t history kind.Wr) s.ranks banks e.wr h.ranks k l (h.wr_words k l)
-          ∙ word-more banks.delays.value s history i kind.Wr k h.timing;
+          raised_word (wr_word banks) (wr_word after) (word_until banks.gaps.value i.cycle i.command kind.Wr) (word_from t history kind.Wr) s.ranks banks e.wr h.ranks k l (h.wr_words k l)
+          ∙ word-more banks.gaps.value s history i kind.Wr k h.timing;
       pre_words = λ k l.
-          raised_word (pre_word banks) (pre_word after) (word_until banks.delays.value i.cycle i.command kind.Pre) (word_from t history kind.Pre) s.ranks banks e.pre h.ranks k l (h.pre_words k l)
-          ∙ word-more banks.delays.value s history i kind.Pre k h.timing;
-      rd_floor = floor-more banks.delays.value s history i kind.Rd banks.rd_floor after.rd_floor h.timing h.rd_floor e.rd_floor;
-      wr_floor = floor-more banks.delays.value s history i kind.Wr banks.wr_floor after.wr_floor h.timing h.wr_floor e.wr_floor;
+          raised_word (pre_word banks) (pre_word after) (word_until banks.gaps.value i.cycle i.command kind.Pre) (word_from t history kind.Pre) s.ranks banks e.pre h.ranks k l (h.pre_words k l)
+          ∙ word-more banks.gaps.value s history i kind.Pre k h.timing;
+      rd_floor = floor-more banks.gaps.value s history i kind.Rd banks.rd_floor after.rd_floor h.timing h.rd_floor e.rd_floor;
+      wr_floor = floor-more banks.gaps.value s history i kind.Wr banks.wr_floor after.wr_floor h.timing h.wr_floor e.wr_floor;
       rank_states =
           changed (rank_state_from t history) (rank_state_from t more) (rank_state_after t i.cycle i.command) s.ranks banks.ranks.items after.ranks.items unused
           h.rank_states e.rank_count
@@ -143,7 +143,7 @@ noted banks after s history i h later e =
 
 -- the banks after a command stand for the history with it, if what was noted in them is a command that is equal to it
 pub noted_is : (banks after : Banks) (s : Config) (history : List IssuedCommand) (cycle channel : ℕ) (command is : Command) → StandsFor banks s history
-    → All (λ (j : IssuedCommand). j.cycle < cycle) history → command ≡ is → IsNoted banks after banks.delays.value cycle is
+    → All (λ (j : IssuedCommand). j.cycle < cycle) history → command ≡ is → IsNoted banks after banks.gaps.value cycle is
     → StandsFor after s (history ++ record { cycle = cycle; channel = channel; command = command } ∷ [])
 noted_is banks after s history cycle channel command is h later e noted_so =
     noted banks after s history (record { cycle = cycle; channel = channel; command = command }) h later (rw e noted_so)
@@ -164,7 +164,7 @@ unused-count m ranks states xs state_is is =
     ap length is ∙ length-replicate (m * ranks) 0 ∙ sym (ap (λ n. m * n) (ap length state_is ∙ length-replicate ranks unused))
 
 -- where no command was noted, nothing holds back
-pub stands-first : (banks : Banks) (s : Config) → banks.delays.value ≡ s.timing
+pub stands-first : (banks : Banks) (s : Config) → banks.gaps.value ≡ s.timing
     → banks.act.items ≡ replicate (16 * s.ranks) 0 → banks.act_groups.items ≡ replicate (4 * s.ranks) 0
     → banks.rd.items ≡ replicate (16 * s.ranks) 0 → banks.rd_groups.items ≡ replicate (4 * s.ranks) 0
     → banks.wr.items ≡ replicate (16 * s.ranks) 0 → banks.wr_groups.items ≡ replicate (4 * s.ranks) 0

@@ -1,8 +1,8 @@
 -- Words of a column that are raised: each becomes the later of what it was and a cycle by its number.
---     AreRaised old new until      each word is raised
---     AreAllRaised old new until      the same, of the numbers that are those of words
+--     AreRaised old new until      each word is raised, and a number past the end of the list has the cycle 0
+--     AreAllRaised old new until      each word is raised; of numbers past the end of the list nothing is said
 --     IsRangeRaised old new first count until      some words are raised to a cycle
---     AreSameBefore old new first, AreSameFrom old new end      the words before a place stay, and those from a place on
+--     AreSameBefore old new first, AreSameFrom old new end      the words before a place, or from one on, stay
 --     group_word_until t cycle earlier later bank k      to which cycle a group's word is raised after a command
 --     act_until t cycle bank end k      to which cycle it is after an ACT
 --     IsRankChanged old new rank change      one rank of all changes
@@ -15,7 +15,7 @@ use Rattle.bank_ready.specs.Ready.{held_until}
 use Rattle.bank_ready.specs.Words.{group_relation_from, groups_rank_until}
 use Rattle.bank_ready.specs.declared.words.RankState.{RankState}
 
--- each word is raised to a cycle by its number
+-- each word is raised to a cycle by its number, which is 0 for a number past the end of the list
 abbrev pub AreRaised : List ℕ → List ℕ → (ℕ → ℕ) → Type 0
 AreRaised old new until = (k d : ℕ) → slice_index_or new k d ≡ max (slice_index_or old k d) (until k)
 

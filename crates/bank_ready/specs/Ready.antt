@@ -1,7 +1,7 @@
 -- When a command may follow those of a history.
 --     held_until t cycle earlier later relation      from which cycle on one command no longer holds a later one back
 --     ready_from t history later rank bank      from which cycle on no command of a history does
---     window_ends t rank history      from which cycle on each ACT of a rank no longer counts for the four-activate window
+--     window_ends t rank history      the cycle in which each ACT of a rank leaves the four-activate window
 use Rattle.std.specs.Prelude.{ℕ, ◌+◌, ◌==◌, ◌&&◌, max, Bool, List, map, filter, fold, Option, option_map, unwrap_or}
 use Rattle.sim_base.specs.declared.timing.Timing.{Timing}
 use Rattle.sim_base.specs.declared.place.BankId.{BankId}

@@ -7,7 +7,7 @@
 --     IsFirstDue lowest now time      the first cycle from now on with a refresh that is due
 --     IsDueFrom count now due      from which cycle on something is due, as seen from now
 --     IsFewest counts fewest      the refreshes of the rank that had the fewest
---     NoneIsDueTo counts quiet      the last cycle in which none is due
+--     NoneIsDueTo counts none_due_to      the last cycle in which none is due
 --     StandsFor counts s history      the refreshes of a list of commands were counted, and no others
 use Rattle.std.specs.Prelude.{◌≡◌, ℕ, ◌+◌, ◌-◌, ◌*◌, ◌^◌, ◌/◌, ◌<◌, ◌≤◌, ◌==◌, nat_lt, nat_le, Bool, List, slice_index, find, count_by, false, Option, replicate, slice_set, IsSome, IfSome, Some, None, if◌then◌else◌}
 use Rattle.sim_base.specs.declared.config.Config.{Config}
@@ -81,12 +81,12 @@ pub record IsCountable (counts : RefreshCounts) : Type 0 where
 -- the last cycle in which no rank has a refresh that is due, as long as none is issued: the last of the interval that
 -- follows those which the rank with the fewest refreshes had, or the last cycle that there is, where there are no
 -- refreshes
-pub record NoneIsDueTo (counts : RefreshCounts) (none_until : ℕ) : Type 0 where
-  pub never : counts.interval ≡ 0 → none_until ≡ 18446744073709551615
+pub record NoneIsDueTo (counts : RefreshCounts) (none_due_to : ℕ) : Type 0 where
+  pub never : counts.interval ≡ 0 → none_due_to ≡ 18446744073709551615
   pub ends : 0 < counts.interval
-      → (fewest : ℕ) × IsFewest counts fewest × (none_until + 1 ≡ (fewest + 1) * counts.interval)
+      → (fewest : ℕ) × IsFewest counts fewest × (none_due_to + 1 ≡ (fewest + 1) * counts.interval)
 
 -- the numbers are in their ranges, and a cycle is the last in which nothing is due
-pub record IsCounted (counts : RefreshCounts) (none_until : ℕ) : Type 0 where
+pub record IsCounted (counts : RefreshCounts) (none_due_to : ℕ) : Type 0 where
   pub countable : IsCountable counts
-  pub none_is_due_to : NoneIsDueTo counts none_until
+  pub none_is_due_to : NoneIsDueTo counts none_due_to

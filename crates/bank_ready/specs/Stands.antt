@@ -30,14 +30,15 @@ IsAllowedFrom s history command cycle = (now : ℕ) → (cycle ≤ now) ↔ IsTr
 
 -- a list of commands with one more, which a channel issues in a cycle
 abbrev pub followed_by : List IssuedCommand → ℕ → ℕ → Command → List IssuedCommand
-followed_by history channel cycle command = history ++ record { cycle = cycle; channel = channel; command = command } ∷ []
+followed_by history channel cycle command =
+    history ++ record { cycle = cycle; channel = channel; command = command } ∷ []
 
 -- each command is later than those before it
 abbrev pub Ascends : List IssuedCommand → Type 0
 Ascends [] = Unit {0}
 Ascends (i ∷ history) = Each (λ (j : IssuedCommand). i.cycle < j.cycle) history × Ascends history
 
--- none of them allows a command of this kind before a cycle, whatever bank it names
+-- a history allows no command of this kind before a cycle, whatever rank and bank it names
 abbrev pub IsFloor : Timing → List IssuedCommand → Kind → ℕ → Type 0
 IsFloor t history later floor = (rank : ℕ) (bank : Option BankId) → floor ≤ ready_from t history later rank bank
 
@@ -45,7 +46,7 @@ IsFloor t history later floor = (rank : ℕ) (bank : Option BankId) → floor �
 -- (an ACT, also by the four-activate window), each floor is a cycle before which they allow no such command in any
 -- bank, and each window has the last four ACTs of its rank.
 pub record StandsFor (banks : Banks) (s : Config) (history : List IssuedCommand) : Type 0 where
-  pub timing : banks.delays.value ≡ s.timing
+  pub timing : banks.gaps.value ≡ s.timing
   pub ranks : rank_count banks ≡ s.ranks
   pub act_words : (k : ℕ) → k < 16 * s.ranks → act_word banks k ≡ act_word_from s.timing history k
   pub rd_words : (k : ℕ) → k < 16 * s.ranks → rd_word banks k ≡ word_from s.timing history Rd k

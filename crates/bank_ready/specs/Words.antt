@@ -2,16 +2,16 @@
 --     is_own own k      a number is that of a bank, if there is such a bank
 --     own_until own until k, rank_until rank until k      to which cycle the word of a bank is raised
 --     groups_rank_until, group_until, ranks_until, all_groups_until      to which cycle that of a group is
---     relation_from bank k, group_relation_from bank k      how a bank relates to the one with a number, and to the group with a number
+--     relation_from bank k, group_relation_from bank k      how a bank relates to the bank, or group, with number k
 --     act_word banks k, rd_word banks k, wr_word banks k, pre_word banks k      what is kept of the bank with a number
---     names_bank kind, names_rank kind, is_column_kind kind      a command of this kind names a bank, or a rank alone, or is a column command
+--     names_bank kind, names_rank kind, is_column_kind kind      names a bank, names a rank alone, is a RD or a WR
 --     unused_rank      a rank that has had no command
 --     pushed window end      the last four ACTs of a rank after one more
 --     window_from t rank history      the last four ACTs of a rank
---     word_from t history later k, act_word_from t history k      from which cycle on no command of a history holds back one of a bank
+--     word_from t history later k, act_word_from t history k      from which cycle on nothing holds back one in bank k
 --     rank_state_from t history rank      what a rank keeps of the commands of a history
 --     word_until t cycle command later k      from which cycle on one command no longer holds back another of a bank
---     rank_raised t cycle earlier state      what a rank keeps after one more command in it
+--     rank_raised t cycle earlier state      a rank whose PREA and REF words a command in it raises
 --     rank_after_act t cycle end state      what it keeps after an ACT
 --     rank_state_after t cycle command rank state      what a rank keeps after one more command
 use Rattle.std.specs.Prelude.{ℕ, ◌+◌, ◌/◌, ◌%◌, ◌==◌, ◌&&◌, max, Bool, true, false, List, slice_index_or, fold, Option, Some, None, if◌then◌else◌}
@@ -158,7 +158,7 @@ abbrev pub word_until : Timing → ℕ → Command → Kind → ℕ → ℕ
 word_until t cycle command later k =
     held_until t cycle (kind_of command) later (relation_to command (k / 16) (Some (bank_at k)))
 
--- a rank whose words are raised by a command of this kind in the rank
+-- a rank whose PREA and REF words are raised by a command of this kind in the rank
 abbrev pub rank_raised : Timing → ℕ → Kind → RankState → RankState
 rank_raised t cycle earlier state =
     record state {

@@ -17,7 +17,7 @@ use timing::gap_table::GapTable;
 /// The banks of a channel. It stands for the list of commands that were noted, each with its cycle.
 #[derive(Drop)]
 pub struct Banks {
-    delays: Box<GapTable>,
+    gaps: Box<GapTable>,
     /// The least cycle from which on each command of a bank is no longer held back, by the bank's number: for an ACT, a
     /// RD and a WR it is the later of the bank's own word and its group's, by the group's number among those of all
     /// ranks.
@@ -61,12 +61,12 @@ impl Banks {
         ensures ranks { IfOk result (λ banks. rank_count banks ≡ config.now.ranks) }
     {
         let count = config.ranks as usize;
-        let delays = Box::new(alloc, GapTable::of(config))?;
+        let gaps = Box::new(alloc, GapTable::of(config))?;
         let ranks = unused_ranks(alloc, count)?;
         let pre = new_words(alloc, 16 * count)?;
         let (act, rd, wr) = act_rd_and_wr_words(alloc, count)?;
         Ok(Banks {
-            delays,
+            gaps,
             act: act.0,
             act_groups: act.1,
             rd: rd.0,
@@ -157,20 +157,20 @@ impl Banks {
         ensures { (row : ℕ) (source : Source)
             → HasNoted self.old self.new cycle (Command.Act bank row source) }
     {
-        let delays = &*self.delays;
+        let gaps = &*self.gaps;
         let own = own_number(bank);
         let end = self.ranks[bank.rank as usize].window.second;
-        let to_act = bound_until(delays, cycle, Kind::Act, Kind::Act, Relation::SameBank);
-        let to_rd = bound_until(delays, cycle, Kind::Act, Kind::Rd, Relation::SameBank);
-        let to_wr = bound_until(delays, cycle, Kind::Act, Kind::Wr, Relation::SameBank);
-        let to_pre = bound_until(delays, cycle, Kind::Act, Kind::Pre, Relation::SameBank);
-        raise_acts(delays, &mut self.act_groups, bank, cycle, end);
+        let to_act = bound_until(gaps, cycle, Kind::Act, Kind::Act, Relation::SameBank);
+        let to_rd = bound_until(gaps, cycle, Kind::Act, Kind::Rd, Relation::SameBank);
+        let to_wr = bound_until(gaps, cycle, Kind::Act, Kind::Wr, Relation::SameBank);
+        let to_pre = bound_until(gaps, cycle, Kind::Act, Kind::Pre, Relation::SameBank);
+        raise_acts(gaps, &mut self.act_groups, bank, cycle, end);
         raise_own(&mut self.act, own, to_act);
         raise_own(&mut self.rd, own, to_rd);
         raise_own(&mut self.wr, own, to_wr);
         raise_own(&mut self.pre, own, to_pre);
-        let last = cycle + u64::from(delays.four_act_window());
-        note_act_in_rank(delays, &mut self.ranks, bank.rank, cycle, last);
+        let last = cycle + u64::from(gaps.four_act_window());
+        note_act_in_rank(gaps, &mut self.ranks, bank.rank, cycle, last);
     }
 
     /// Notes a column command, in its bank, in the words of column commands of the groups of each rank, in the floors
@@ -184,21 +184,21 @@ impl Banks {
             → kind_of command ≡ kind → bank_of command ≡ Some bank
             → HasNoted self.old self.new cycle command }
     {
-        let delays = &*self.delays;
+        let gaps = &*self.gaps;
         let own = own_number(bank);
-        let to_pre = bound_until(delays, cycle, kind, Kind::Pre, Relation::SameBank);
+        let to_pre = bound_until(gaps, cycle, kind, Kind::Pre, Relation::SameBank);
         let command = ColumnCommand { kind, bank, cycle };
-        let to_rd = raise_column_words(delays, &mut self.rd_groups, command, Kind::Rd);
-        let to_wr = raise_column_words(delays, &mut self.wr_groups, command, Kind::Wr);
+        let to_rd = raise_column_words(gaps, &mut self.rd_groups, command, Kind::Rd);
+        let to_wr = raise_column_words(gaps, &mut self.wr_groups, command, Kind::Wr);
         self.rd_floor = self.rd_floor.max(to_rd);
         self.wr_floor = self.wr_floor.max(to_wr);
         raise_own(&mut self.pre, own, to_pre);
-        raise_rank_words(delays, &mut self.ranks, bank.rank, cycle, kind);
+        raise_rank_words(gaps, &mut self.ranks, bank.rank, cycle, kind);
     }
 
     /// Notes a RD.
     #[inline]
-    fn note_read(&mut self, bank: BankId, cycle: Cycle)
+    fn note_rd(&mut self, bank: BankId, cycle: Cycle)
         requires rank { bank.rank < rank_count self.old }
         requires cycle { cycle < 2 ^ 62 }
         ensures { (row column : ℕ) (source : Source)
@@ -209,7 +209,7 @@ impl Banks {
 
     /// Notes a WR.
     #[inline]
-    fn note_write(&mut self, bank: BankId, cycle: Cycle)
+    fn note_wr(&mut self, bank: BankId, cycle: Cycle)
         requires rank { bank.rank < rank_count self.old }
         requires cycle { cycle < 2 ^ 62 }
         ensures { (row column : ℕ) (source : Source)
@@ -226,14 +226,14 @@ impl Banks {
         requires cycle { cycle < 2 ^ 62 }
         ensures { (source : Source) → HasNoted self.old self.new cycle (Command.Pre bank source) }
     {
-        let delays = &*self.delays;
+        let gaps = &*self.gaps;
         let own = own_number(bank);
-        let to_act = bound_until(delays, cycle, Kind::Pre, Kind::Act, Relation::SameBank);
+        let to_act = bound_until(gaps, cycle, Kind::Pre, Kind::Act, Relation::SameBank);
         raise_own(&mut self.act, own, to_act);
-        raise_rank_words(delays, &mut self.ranks, bank.rank, cycle, Kind::Pre);
+        raise_rank_words(gaps, &mut self.ranks, bank.rank, cycle, Kind::Pre);
     }
 
-    /// Notes a PREA, in each bank and each group of its rank and in the words of the whole rank.
+    /// Notes a PREA, in the words of ACTs of the groups of its rank and in the words of the whole rank.
     #[inline(never)]
     #[tactic(auto, unfolding(sim_base::specs::Rules::is_bound))]
     fn note_prea(&mut self, rank: u32, cycle: Cycle)
@@ -241,26 +241,27 @@ impl Banks {
         requires cycle { cycle < 2 ^ 62 }
         ensures { HasNoted self.old self.new cycle (Command.Prea rank) }
     {
-        let delays = &*self.delays;
-        let to_act = bound_until(delays, cycle, Kind::Prea, Kind::Act, Relation::SameBank);
+        let gaps = &*self.gaps;
+        let to_act = bound_until(gaps, cycle, Kind::Prea, Kind::Act, Relation::SameBank);
         raise_rank_groups(&mut self.act_groups, rank, to_act);
-        raise_rank_words(delays, &mut self.ranks, rank, cycle, Kind::Prea);
+        raise_rank_words(gaps, &mut self.ranks, rank, cycle, Kind::Prea);
     }
 
-    /// Notes a REF, in each bank and each group of its rank and in the words of the whole rank.
+    /// Notes a REF, in the words of ACTs of the groups of its rank, in the words of PREs of its banks and in the words
+    /// of the whole rank.
     #[inline(never)]
     #[tactic(auto, unfolding(sim_base::specs::Rules::is_bound))]
-    fn note_refresh(&mut self, rank: u32, cycle: Cycle)
+    fn note_ref(&mut self, rank: u32, cycle: Cycle)
         requires rank { rank < rank_count self.old }
         requires cycle { cycle < 2 ^ 62 }
         ensures { HasNoted self.old self.new cycle (Command.Ref rank) }
     {
-        let delays = &*self.delays;
-        let to_act = bound_until(delays, cycle, Kind::Ref, Kind::Act, Relation::SameBank);
-        let to_pre = bound_until(delays, cycle, Kind::Ref, Kind::Pre, Relation::SameBank);
+        let gaps = &*self.gaps;
+        let to_act = bound_until(gaps, cycle, Kind::Ref, Kind::Act, Relation::SameBank);
+        let to_pre = bound_until(gaps, cycle, Kind::Ref, Kind::Pre, Relation::SameBank);
         raise_rank_groups(&mut self.act_groups, rank, to_act);
         raise_rank(&mut self.pre, rank, to_pre);
-        raise_rank_words(delays, &mut self.ranks, rank, cycle, Kind::Ref);
+        raise_rank_words(gaps, &mut self.ranks, rank, cycle, Kind::Ref);
     }
 
     /// Notes a command that is issued in a cycle later than those of all commands noted before. It is small, so that a
@@ -276,11 +277,11 @@ impl Banks {
     {
         match command {
             Command::Act { bank, .. } => self.note_act(bank, cycle),
-            Command::Rd { bank, .. } => self.note_read(bank, cycle),
-            Command::Wr { bank, .. } => self.note_write(bank, cycle),
+            Command::Rd { bank, .. } => self.note_rd(bank, cycle),
+            Command::Wr { bank, .. } => self.note_wr(bank, cycle),
             Command::Pre { bank, .. } => self.note_pre(bank, cycle),
             Command::Prea { rank } => self.note_prea(rank, cycle),
-            Command::Ref { rank } => self.note_refresh(rank, cycle),
+            Command::Ref { rank } => self.note_ref(rank, cycle),
         }
     }
 }

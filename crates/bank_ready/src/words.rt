@@ -58,7 +58,7 @@ pub(crate) fn new_words(alloc: Global, count: usize) -> Result<Vec<Cycle>, Alloc
     vec![in alloc; 0; count]
 }
 
-/// The last commands of so many ranks, of which none has had one.
+/// The states of so many ranks, of which none has had a command.
 pub(crate) fn unused_ranks(alloc: Global, count: usize) -> Result<Vec<RankState>, AllocError>
     ensures { IfOk result (λ ranks. ranks.items ≡ replicate count unused_rank) }
 {
@@ -103,22 +103,22 @@ pub(crate) fn act_rd_and_wr_words(
 #[inline(always)]
 #[tactic(auto, using(crate::proofs::Bounds::held_if_bound))]
 pub(crate) fn bound_until(
-    delays: &GapTable,
+    gaps: &GapTable,
     cycle: Cycle,
     earlier: Kind,
     later: Kind,
     relation: Relation,
 ) -> Cycle
     requires cycle { cycle < 2 ^ 62 }
-    requires bound { IsTrue (is_bound delays.now earlier later relation) }
-    ensures { result ≡ held_until delays.now cycle earlier later relation }
+    requires bound { IsTrue (is_bound gaps.now earlier later relation) }
+    ensures { result ≡ held_until gaps.now cycle earlier later relation }
 {
-    cycle + delays.gap(earlier, later, relation)
+    cycle + gaps.gap(earlier, later, relation)
 }
 
 /// The number of a bank, if there is such a bank in a rank.
 #[inline(always)]
-#[tactic(auto, using(crate::proofs::Places::own_number, crate::proofs::Places::no_group, crate::proofs::Places::no_bank))]
+#[tactic(auto, using(sim_base::proofs::Banks::number_names_bank, crate::proofs::Places::no_group, crate::proofs::Places::no_bank))]
 pub(crate) fn own_number(bank: BankId) -> Option<usize>
     requires { bank.rank < 4 }
     ensures number { (k : ℕ) → is_own result k ≡ is_bank (bank_at k) bank }
@@ -145,7 +145,7 @@ fn raise_word(word: &mut Cycle, until: Cycle)
 #[inline(always)]
 pub(crate) fn raise<const N: usize>(words: &mut [Cycle], first: usize, until: Cycle)
     requires inside { first + N ≤ length words.old }
-    ensures inside { IsRangeRaised words.old words.new first N until }
+    ensures raised { IsRangeRaised words.old words.new first N until }
     ensures below { AreSameBefore words.old words.new first }
     ensures above { AreSameFrom words.old words.new (first + N) }
 {
@@ -259,7 +259,7 @@ pub(crate) struct ColumnCommand {
 /// cycles up to which that one holds them back: in its own group, in another group and in another rank.
 #[inline(always)]
 pub(crate) fn raise_column_words(
-    delays: &GapTable,
+    gaps: &GapTable,
     words: &mut [Cycle],
     earlier: ColumnCommand,
     later: Kind,
@@ -270,14 +270,14 @@ pub(crate) fn raise_column_words(
     requires inside { 4 * earlier.bank.rank + 4 ≤ length words.old }
     requires whole { length words.old % 4 ≡ 0 }
     ensures words { AreAllRaised words.old words.new
-        (group_word_until delays.now earlier.cycle earlier.kind later earlier.bank) }
+        (group_word_until gaps.now earlier.cycle earlier.kind later earlier.bank) }
     ensures least { (relation : Relation)
-        → result ≤ held_until delays.now earlier.cycle earlier.kind later relation }
+        → result ≤ held_until gaps.now earlier.cycle earlier.kind later relation }
 {
     let ColumnCommand { kind, bank, cycle } = earlier;
-    let same_group = bound_until(delays, cycle, kind, later, Relation::SameGroup);
-    let other_group = bound_until(delays, cycle, kind, later, Relation::OtherGroup);
-    let other_rank = bound_until(delays, cycle, kind, later, Relation::OtherRank);
+    let same_group = bound_until(gaps, cycle, kind, later, Relation::SameGroup);
+    let other_group = bound_until(gaps, cycle, kind, later, Relation::OtherGroup);
+    let other_rank = bound_until(gaps, cycle, kind, later, Relation::OtherRank);
     raise_all_groups(words, bank, same_group, other_group, other_rank);
     same_group.min(other_group).min(other_rank)
 }
@@ -287,7 +287,7 @@ pub(crate) fn raise_column_words(
 #[inline(always)]
 #[tactic(auto, unfolding(sim_base::specs::Rules::is_bound), using(crate::proofs::Bounds::act_other_rank, crate::proofs::Places::act_raised))]
 pub(crate) fn raise_acts(
-    delays: &GapTable,
+    gaps: &GapTable,
     words: &mut [Cycle],
     bank: BankId,
     cycle: Cycle,
@@ -295,10 +295,10 @@ pub(crate) fn raise_acts(
 )
     requires cycle { cycle < 2 ^ 62 }
     requires inside { 4 * bank.rank + 4 ≤ length words.old }
-    ensures { AreRaised words.old words.new (act_until delays.now cycle bank end) }
+    ensures { AreRaised words.old words.new (act_until gaps.now cycle bank end) }
 {
-    let same_group = bound_until(delays, cycle, Kind::Act, Kind::Act, Relation::SameGroup);
-    let other_group = bound_until(delays, cycle, Kind::Act, Kind::Act, Relation::OtherGroup);
+    let same_group = bound_until(gaps, cycle, Kind::Act, Kind::Act, Relation::SameGroup);
+    let other_group = bound_until(gaps, cycle, Kind::Act, Kind::Act, Relation::OtherGroup);
     raise_groups(
         words,
         bank.rank,
@@ -311,36 +311,36 @@ pub(crate) fn raise_acts(
 /// From which cycle on a command in a rank no longer holds back a PREA of it; 0 where no rule binds them.
 #[inline(always)]
 #[tactic(auto, using(crate::proofs::Bounds::prea_bound, crate::proofs::Bounds::pre_to_prea, crate::proofs::Bounds::prea_to_prea))]
-fn prea_until(delays: &GapTable, cycle: Cycle, earlier: Kind) -> Cycle
+fn prea_until(gaps: &GapTable, cycle: Cycle, earlier: Kind) -> Cycle
     requires { cycle < 2 ^ 62 }
-    ensures { result ≡ held_until delays.now cycle earlier Kind.Prea Relation.SameBank }
+    ensures { result ≡ held_until gaps.now cycle earlier Kind.Prea Relation.SameBank }
 {
     match earlier {
         Kind::Pre => 0,
         Kind::Prea => 0,
-        _ => bound_until(delays, cycle, earlier, Kind::Prea, Relation::SameBank),
+        _ => bound_until(gaps, cycle, earlier, Kind::Prea, Relation::SameBank),
     }
 }
 
 /// From which cycle on a command in a rank no longer holds back a REF of it; 0 where no rule binds them.
 #[inline(always)]
 #[tactic(auto, using(crate::proofs::Bounds::refresh_bound, crate::proofs::Bounds::act_to_refresh, crate::proofs::Bounds::rd_to_refresh, crate::proofs::Bounds::wr_to_refresh))]
-fn refresh_until(delays: &GapTable, cycle: Cycle, earlier: Kind) -> Cycle
+fn refresh_until(gaps: &GapTable, cycle: Cycle, earlier: Kind) -> Cycle
     requires { cycle < 2 ^ 62 }
-    ensures { result ≡ held_until delays.now cycle earlier Kind.Ref Relation.SameBank }
+    ensures { result ≡ held_until gaps.now cycle earlier Kind.Ref Relation.SameBank }
 {
     match earlier {
         Kind::Act => 0,
         Kind::Rd => 0,
         Kind::Wr => 0,
-        _ => bound_until(delays, cycle, earlier, Kind::Ref, Relation::SameBank),
+        _ => bound_until(gaps, cycle, earlier, Kind::Ref, Relation::SameBank),
     }
 }
 
 /// Raises the words of the commands of a whole rank, as far as a command of this kind in the rank holds them back.
 #[inline(always)]
 pub(crate) fn raise_rank_words(
-    delays: &GapTable,
+    gaps: &GapTable,
     ranks: &mut [RankState],
     rank: u32,
     cycle: Cycle,
@@ -348,17 +348,17 @@ pub(crate) fn raise_rank_words(
 )
     requires cycle { cycle < 2 ^ 62 }
     requires inside { rank < length ranks.old }
-    ensures { IsRankChanged ranks.old ranks.new rank (rank_raised delays.now cycle earlier) }
+    ensures { IsRankChanged ranks.old ranks.new rank (rank_raised gaps.now cycle earlier) }
 {
     let state = &mut ranks[rank as usize];
-    state.prea = state.prea.max(prea_until(delays, cycle, earlier));
-    state.refresh = state.refresh.max(refresh_until(delays, cycle, earlier));
+    state.prea = state.prea.max(prea_until(gaps, cycle, earlier));
+    state.refresh = state.refresh.max(refresh_until(gaps, cycle, earlier));
 }
 
 /// Notes an ACT in the words and the window of its rank; from `end` on it no longer counts for the window.
 #[inline(always)]
 pub(crate) fn note_act_in_rank(
-    delays: &GapTable,
+    gaps: &GapTable,
     ranks: &mut [RankState],
     rank: u32,
     cycle: Cycle,
@@ -366,9 +366,9 @@ pub(crate) fn note_act_in_rank(
 )
     requires cycle { cycle < 2 ^ 62 }
     requires inside { rank < length ranks.old }
-    ensures { IsRankChanged ranks.old ranks.new rank (rank_after_act delays.now cycle end) }
+    ensures { IsRankChanged ranks.old ranks.new rank (rank_after_act gaps.now cycle end) }
 {
-    raise_rank_words(delays, ranks, rank, cycle, Kind::Act);
+    raise_rank_words(gaps, ranks, rank, cycle, Kind::Act);
     let window = &mut ranks[rank as usize].window;
     window.oldest = window.second;
     window.second = window.third;

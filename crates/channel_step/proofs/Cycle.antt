@@ -20,19 +20,19 @@ use Rattle.sim_base.specs.declared.message.Request.{Request}
 use Rattle.statistics.specs.Channels.{channel_cycle_with, channel_cycle}
 use Rattle.statistics.specs.declared.channels.ChannelStats.{ChannelStats}
 use Rattle.statistics.proofs.ChannelCounts.{AgreeUpTo-later, channel_stats-later}
-use Rattle.channel_step.specs.Past.{requests_of, CarriesRequest, IsOther, Differ, is_named, Past, commands_after, choice_after, with_mail}
-use Rattle.channel_step.specs.Fit.{IsUnnamed}
+use Rattle.channel_step.specs.Past.{carried_requests, CarriesRequest, IsOther, Differ, has_act, Past, commands_after, choice_after, with_mail}
+use Rattle.channel_step.specs.Fit.{NoneIssuedFor}
 use Rattle.channel_step.specs.Stands.{Recalls, HasArrivals}
 use Rattle.channel_step.proofs.Requests.{ArrivedBefore, requests-arrived, carries-stamped, queued_requests-arrivals}
 use Rattle.channel_step.proofs.Spans.{queue-next, drains-next, choice-next}
-use Rattle.channel_step.proofs.Marks.{unnamed-marks}
+use Rattle.channel_step.proofs.Marks.{none_issued-marks}
 
 -- the requests that arrive in the cycle after these steps, and that no command has named
 pub record Arrives (past : Past) (new : List Message) : Type 0 where
   pub requests : Each (CarriesRequest past.config past.channel) new
   pub now : Each (λ (m : Message). m.arrival ≡ length past.steps) new
-  pub differ : Differ (requests_of (past.mail ++ new))
-  pub unnamed : Each (IsUnnamed (commands_after past)) (requests_of new)
+  pub differ : Differ (carried_requests (past.mail ++ new))
+  pub none_issued : Each (NoneIssuedFor (commands_after past)) (carried_requests new)
 
 not_before : (now : ℕ) (new : List Message) → Each (λ (m : Message). m.arrival ≡ now) new → NotBefore now new
 not_before now new h = Each-weaker (λ (m : Message). m.arrival ≡ now) (λ (m : Message). now ≤ m.arrival) (λ m e. omega arith) new h
@@ -40,18 +40,18 @@ not_before now new h = Each-weaker (λ (m : Message). m.arrival ≡ now) (λ (m 
 -- when the requests of a cycle have joined
 pub joined : (queue : List Request) (drained : Bool) (marks : List Bool) (stats : ChannelStats) (past : Past) (new : List Message)
     → Recalls queue drained marks stats past → Arrives past new
-    → HasArrivals (queue ++ requests_of new) (drains_with past.config drained (count_by (λ r. is_access access.Write r.access) (queue ++ requests_of new))) (marks ++ map (λ r. false) (requests_of new)) stats
+    → HasArrivals (queue ++ carried_requests new) (drains_with past.config drained (count_by (λ r. is_access access.Write r.access) (queue ++ carried_requests new))) (marks ++ map (λ r. false) (carried_requests new)) stats
     (with_mail past new)
 joined queue drained marks stats past new h a =
     let now = length past.steps in
     let history = commands_after past in
-    let before : Each (ArrivedBefore now) (requests_of past.mail) = requests-arrived past.config past.channel now past.mail h.past.requests h.past.arrived in
+    let before : Each (ArrivedBefore now) (carried_requests past.mail) = requests-arrived past.config past.channel now past.mail h.past.requests h.past.arrived in
     let soon : Each (λ (m : Message). m.arrival < now + 1) new = Each-weaker (λ (m : Message). m.arrival ≡ now) (λ (m : Message). m.arrival < now + 1) (λ m e. omega arith) new a.now in
     let stamped = carries-stamped past.config past.channel past.mail h.past.requests in
     let later = carries-stamped past.config past.channel new a.requests in
-    let same : queue ++ requests_of new ≡ queued_requests history (past.mail ++ new) (now + 1) =
-    ap (λ q. q ++ requests_of new) h.queue_is
-    ∙ sym (queued_requests-arrivals history past.mail new now before (requests-arrived past.config past.channel (now + 1) new a.requests soon) a.unnamed) in
+    let same : queue ++ carried_requests new ≡ queued_requests history (past.mail ++ new) (now + 1) =
+    ap (λ q. q ++ carried_requests new) h.queue_is
+    ∙ sym (queued_requests-arrivals history past.mail new now before (requests-arrived past.config past.channel (now + 1) new a.requests soon) a.none_issued) in
     record {
       requests = Each-append (CarriesRequest past.config past.channel) past.mail new h.past.requests a.requests;
       arrived = Each-append (λ (m : Message). m.arrival < now + 1) past.mail new (Each-weaker (λ (m : Message). m.arrival < now) (λ (m : Message). m.arrival < now + 1) (λ m l. omega arith) past.mail h.past.arrived) soon;
@@ -61,9 +61,9 @@ joined queue drained marks stats past new h a =
           ap₂ (λ d q. drains_with past.config d (count_by (λ r. is_access access.Write r.access) q))
           (h.drained_is ∙ sym (drains-same past.config past.channel past.steps (past.mail ++ new) past.mail now (AgreeUpTo-later now past.mail new stamped later (not_before now new a.now)))) same
           ∙ sym (drains-next past.config past.channel past.steps (past.mail ++ new));
-      marks_are =
-          ap₂ (λ x y. x ++ y) h.marks_are (sym (unnamed-marks history (requests_of new) a.unnamed))
-          ∙ sym (map-append (is_named history) queue (requests_of new));
+      activated_are =
+          ap₂ (λ x y. x ++ y) h.activated_are (sym (none_issued-marks history (carried_requests new) a.none_issued))
+          ∙ sym (map-append (has_act history) queue (carried_requests new));
       stats_are = h.stats_are ∙ sym (channel_stats-later past.config past.channel past.steps past.mail new stamped later (not_before now new a.now));
     }
 
@@ -102,4 +102,4 @@ pub joined-differ : (queue : List Request) (drained : Bool) (marks : List Bool) 
     → HasArrivals queue drained marks stats past → Differ queue
 unfolding queued_requests
 joined-differ queue drained marks stats past h =
-    subst Differ (sym h.queue_is) (Differ-filter (is_queued (commands_after past) (length past.steps + 1)) (requests_of past.mail) h.differ)
+    subst Differ (sym h.queue_is) (Differ-filter (is_queued (commands_after past) (length past.steps + 1)) (carried_requests past.mail) h.differ)

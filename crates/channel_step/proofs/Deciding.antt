@@ -1,25 +1,27 @@
 -- What a channel decides in a cycle.
-use Rattle.std.proofs.Common.{◌≡◌, ℕ, ◌+◌, ◌-◌, ◌<◌, ◌≤◌, true, ◌++◌, length, Option, Some, None, refl, sym, ap, ap₂, subst, ◌∙◌, arith}
+use Rattle.std.proofs.Common.{List, ◌≡◌, ℕ, ◌+◌, ◌-◌, ◌<◌, ◌≤◌, true, ◌++◌, length, Option, Some, None, refl, sym, ap, ap₂, subst, ◌∙◌, arith}
 use Rattle.std.specs.Prelude.{replicate, is_some}
 use Rattle.std.specs.List.{All}
 use Rattle.std.proofs.lemmas.Bool.{false≢true}
 use Rattle.sim_base.specs.declared.config.Config.{Config}
 use Rattle.sim_base.specs.Scheduling.{drains_with, drains_before, candidates, choice_between, choice, lowest_due}
-use Rattle.bank_ready.specs.Stands.{rank_count}
+use Rattle.bank_ready.specs.Stands.{rank_count, StandsFor as BanksStandFor}
 use Rattle.queue.specs.Log.{waiting_requests, all_requests}
 use Rattle.queue.specs.Columns.{write_count}
 use Rattle.queue.specs.View.{is_draining, drains_by}
 use Rattle.channel_step.specs.FrFcfs.Requests.{IsInBanks}
-use Rattle.channel_step.specs.FrFcfs.Choices.{StandFor, choice_in, command_of, IsFor}
+use Rattle.channel_step.specs.FrFcfs.Choices.{choice_in, command_of, IsFor}
 use Rattle.channel_step.specs.FrFcfs.Cycles.{IsNextAt}
-use Rattle.channel_step.specs.declared.fr_fcfs.choice.Choice.{Choice}
+use Rattle.channel_step.specs.declared.fr_fcfs.choice.Need.{Need}
 use Rattle.channel_step.specs.Past.{Past, commands_after}
 use Rattle.channel_step.specs.Fit.{IsIdle}
-use Rattle.channel_step.specs.Channels.{IsMadeFor, IsInCycle, IsInSomeCycle, IsNeededIn}
+use Rattle.channel_step.specs.Channels.{IsMadeFor, IsInCycle, IsInSomeCycle, IsNeededIn, PartsStand, CandidatesStand}
 use Rattle.channel_step.specs.declared.channel.Channel.{Channel}
 use Rattle.channel_step.proofs.Spans.{drains-next}
 use Rattle.channel_step.proofs.Requests.{requests-arrived}
 use Rattle.channel_step.proofs.Stretches.{drains-twice, idle-choice}
+use Rattle.bank_ready.specs.Refreshes.{StandsFor as RefreshesStandFor}
+use Rattle.sim_base.specs.declared.command.IssuedCommand.{IssuedCommand}
 
 drains-configured : (c : Channel) (s : Config) (channel : ℕ) → IsMadeFor c s channel → is_draining c.queue ≡ drains_with s c.queue.drain_decided (write_count (waiting_requests c.queue.log))
 drains-configured c s channel h =
@@ -73,7 +75,7 @@ some-is None e = absurd (false≢true e)
 some-is (Some x) e = (x, refl)
 
 -- what is chosen next for the queue needs the next command of the channel
-pub found-before : (c : Channel) (past : Past) (now end cycle : ℕ) (chosen : Choice) → IsInCycle c past
+pub found-before : (c : Channel) (past : Past) (now end cycle : ℕ) (chosen : Need) → IsInCycle c past
     → length past.steps ≡ now → IsNextAt (choice_in past.config (commands_after past) c.queue) now cycle (command_of past.config (commands_after past) c.queue.log chosen) → IsFor past.config.ranks c.queue.log chosen
     → cycle < end → IsNeededIn past c.queue.log end cycle chosen
 found-before c past now end cycle chosen h at n place l =
@@ -91,14 +93,18 @@ found-before c past now end cycle chosen h at n place l =
       };
     }
 
--- the parts of the channel stand for its commands
-pub cycle-stands : (c : Channel) (past : Past) → IsInCycle c past
-    → StandFor c.bank_candidates c.banks c.refresh c.queue c.config.groups past.config (commands_after past)
-cycle-stands c past h =
+-- the parts of a channel stand for a history where each of them does
+pub parts-stand : (c : Channel) (s : Config) (channel : ℕ) (history : List IssuedCommand) → IsMadeFor c s channel → BanksStandFor c.banks s history
+    → CandidatesStand c.bank_candidates c.queue.log history → RefreshesStandFor c.refresh s history → PartsStand c s history
+parts-stand c s channel history made_for banks_stand candidates_stand refreshes_stand =
     record {
-      candidates_stand = h.candidates_stand;
-      banks_stand = h.banks_stand;
-      refreshes_stand = h.refreshes_stand;
-      groups_are = ap (λ (x : Config). x.groups) (sym h.made_for.config_is);
-      high_is = sym h.made_for.high_is;
+      candidates_stand = candidates_stand;
+      banks_stand = banks_stand;
+      refreshes_stand = refreshes_stand;
+      groups_are = ap (λ (x : Config). x.groups) (sym made_for.config_is);
+      high_is = sym made_for.high_is;
     }
+
+-- the parts of the channel stand for its commands
+pub cycle-stands : (c : Channel) (past : Past) → IsInCycle c past → PartsStand c past.config (commands_after past)
+cycle-stands c past h = parts-stand c past.config past.channel (commands_after past) h.made_for h.banks_stand h.candidates_stand h.refreshes_stand

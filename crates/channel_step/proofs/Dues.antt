@@ -6,6 +6,7 @@ use Rattle.std.proofs.lemmas.Bool.Decides.{nat_tests}
 use Rattle.std.proofs.lemmas.Nat.{le-div}
 use Rattle.std.proofs.Math.Nat.{div-mul-le_self}
 use Rattle.sim_base.specs.History.{below}
+use Rattle.sim_base.proofs.Lists.{find-none}
 use Rattle.bank_ready.specs.Refreshes.{RefreshCounts, owed, lowest_owed, IsFirstDue}
 use Rattle.bank_ready.proofs.Due.{some_is}
 
@@ -45,13 +46,9 @@ due_from_next counts now until due cycle h from before =
       | inr late ↦ due-stays counts due cycle (omega arith) (some_is _ h.due) ∙ sym (le-leb (min due until) cycle (omega arith))
     ]
 
-find-none : (p : ℕ → Bool) → ((x : ℕ) → p x ≡ false) → (xs : List ℕ) → is_some (find p xs) ≡ false
-find-none p h [] = refl
-find-none p h (x ∷ xs) = ap is_some (cond-false (p x) (Some x) (find p xs) (h x)) ∙ find-none p h xs
-
 -- where there are no refreshes, none is ever due
 pub never_due : (counts : RefreshCounts) (until cycle : ℕ) → counts.interval ≡ 0 → cycle < until → is_some (lowest_owed counts cycle) ≡ nat_le until cycle
 never_due counts until cycle none before =
-    find-none (λ rank. ltb 0 (owed counts rank cycle))
-    (λ rank. ap (ltb 0) (cond-true (eqb counts.interval 0) 0 (cycle / counts.interval - slice_index counts.issued rank) (eq-eqb counts.interval 0 none))) (below counts.ranks)
+    ap is_some (find-none (λ rank. ltb 0 (owed counts rank cycle)) 0 counts.ranks
+    (λ rank from l. ap (ltb 0) (cond-true (eqb counts.interval 0) 0 (cycle / counts.interval - slice_index counts.issued rank) (eq-eqb counts.interval 0 none))))
     ∙ sym (lt-leb until cycle before)

@@ -21,8 +21,8 @@ use Rattle.sim_base.specs.declared.message.Request.{Request}
 use Rattle.statistics.proofs.ChannelCounts.{AgreeUpTo-later, issued_commands-push}
 use Rattle.statistics.specs.declared.channels.ChannelStats.{ChannelStats}
 use Rattle.channel_step.specs.Runs.{steps_on}
-use Rattle.channel_step.specs.Past.{requests_of, CarriesRequest, IsOther, Differ, Past, commands_after, choice_after, with_mail}
-use Rattle.channel_step.specs.Fit.{is_of, is_named_by, IsUnnamed, ComeByAge, IsFit, IsFitAfter}
+use Rattle.channel_step.specs.Past.{carried_requests, CarriesRequest, IsOther, Differ, Past, commands_after, choice_after, with_mail}
+use Rattle.channel_step.specs.Fit.{comes_from, is_issued_for, NoneIssuedFor, ComeByAge, IsFit, IsFitAfter}
 use Rattle.channel_step.specs.Stands.{HasArrivals}
 use Rattle.channel_step.proofs.Requests.{carries-stamped, requests-append}
 use Rattle.channel_step.proofs.Spans.{channel_run-more, channel_run-first}
@@ -82,15 +82,15 @@ pub fit-arrives : (past : Past) (inbox : List Message) (now until : ℕ) → len
     → IsFitAfter past inbox now until → Arrives past (take (due_count inbox now) inbox)
 fit-arrives past inbox now until at h =
     let n = due_count inbox now in
-    let whole : requests_of (past.mail ++ inbox) ≡ requests_of (past.mail ++ take n inbox) ++ requests_of (drop n inbox) =
-    ap requests_of (ap (λ x. past.mail ++ x) (sym (take-append-drop n inbox)) ∙ sym (append_assoc past.mail (take n inbox) (drop n inbox))) ∙ requests-append (past.mail ++ take n inbox) (drop n inbox) in
-    let named : requests_of inbox ≡ requests_of (take n inbox) ++ requests_of (drop n inbox) =
-    ap requests_of (sym (take-append-drop n inbox)) ∙ requests-append (take n inbox) (drop n inbox) in
+    let whole : carried_requests (past.mail ++ inbox) ≡ carried_requests (past.mail ++ take n inbox) ++ carried_requests (drop n inbox) =
+    ap carried_requests (ap (λ x. past.mail ++ x) (sym (take-append-drop n inbox)) ∙ sym (append_assoc past.mail (take n inbox) (drop n inbox))) ∙ requests-append (past.mail ++ take n inbox) (drop n inbox) in
+    let named : carried_requests inbox ≡ carried_requests (take n inbox) ++ carried_requests (drop n inbox) =
+    ap carried_requests (sym (take-append-drop n inbox)) ∙ requests-append (take n inbox) (drop n inbox) in
     record {
       requests = (split-each (CarriesRequest past.config past.channel) n inbox h.requests).0;
       now = Each-weaker (λ (m : Message). m.arrival ≡ now) (λ (m : Message). m.arrival ≡ length past.steps) (λ m e. omega arith) (take n inbox) (arrived-first now inbox);
-      differ = (split-differ (requests_of (past.mail ++ take n inbox)) (requests_of (drop n inbox)) (subst Differ whole h.differ)).0;
-      unnamed = Each-first (IsUnnamed (commands_after past)) (requests_of (take n inbox)) (requests_of (drop n inbox)) (subst (Each (IsUnnamed (commands_after past))) named h.unnamed);
+      differ = (split-differ (carried_requests (past.mail ++ take n inbox)) (carried_requests (drop n inbox)) (subst Differ whole h.differ)).0;
+      none_issued = Each-first (NoneIssuedFor (commands_after past)) (carried_requests (take n inbox)) (carried_requests (drop n inbox)) (subst (Each (NoneIssuedFor (commands_after past))) named h.none_issued);
     }
 
 -- the messages of a fit inbox that do not arrive in the first cycle of the span arrive later
@@ -109,14 +109,14 @@ pub fit-taken : (past : Past) (inbox : List Message) (now until n : ℕ) → IsF
 fit-taken past inbox now until n h =
     let history = commands_after past in
     let whole : past.mail ++ inbox ≡ (past.mail ++ take n inbox) ++ drop n inbox = ap (λ x. past.mail ++ x) (sym (take-append-drop n inbox)) ∙ sym (append_assoc past.mail (take n inbox) (drop n inbox)) in
-    let named : requests_of inbox ≡ requests_of (take n inbox) ++ requests_of (drop n inbox) =
-    ap requests_of (sym (take-append-drop n inbox)) ∙ requests-append (take n inbox) (drop n inbox) in
+    let named : carried_requests inbox ≡ carried_requests (take n inbox) ++ carried_requests (drop n inbox) =
+    ap carried_requests (sym (take-append-drop n inbox)) ∙ requests-append (take n inbox) (drop n inbox) in
     record {
       requests = (split-each (CarriesRequest past.config past.channel) n inbox h.requests).1;
       by_age = split-age n inbox h.by_age;
       in_span = (split-each (λ (m : Message). (now ≤ m.arrival) × (m.arrival < until)) n inbox h.in_span).1;
-      differ = subst Differ (ap requests_of whole) h.differ;
-      unnamed = Each-last (IsUnnamed history) (requests_of (take n inbox)) (requests_of (drop n inbox)) (subst (Each (IsUnnamed history)) named h.unnamed);
+      differ = subst Differ (ap carried_requests whole) h.differ;
+      none_issued = Each-last (NoneIssuedFor history) (carried_requests (take n inbox)) (carried_requests (drop n inbox)) (subst (Each (NoneIssuedFor history)) named h.none_issued);
       room = λ k l. subst (λ m. queue_length past.channel (channel_run past.config past.channel past.steps m k) m (now + k) ≤ queue_room past.config) whole (h.room k l);
     }
 
@@ -125,37 +125,37 @@ pub none-due : (now : ℕ) (inbox : List Message) → Each (λ (m : Message). no
 none-due now [] h = refl
 none-due now (m ∷ ms) h = let later : now + 1 ≤ m.arrival = h.0 in cond-false (eqb m.arrival now) _ _ (grind (arith, nat_tests))
 
-unnamed_by : (command : Command) (rest : List Request) → IfSome (source_in command) (λ source. Each (λ (r : Request). is_source r source ≡ false) rest)
-    → Each (λ (r : Request). is_named_by command r ≡ false) rest
-unnamed_by command rest h = by (source_in command) h
+none_issued_by : (command : Command) (rest : List Request) → IfSome (source_in command) (λ source. Each (λ (r : Request). is_source r source ≡ false) rest)
+    → Each (λ (r : Request). is_issued_for command r ≡ false) rest
+none_issued_by command rest h = by (source_in command) h
   where
-    by : (o : Option Source) → IfSome o (λ source. Each (λ (r : Request). is_source r source ≡ false) rest) → Each (λ (r : Request). is_of o r ≡ false) rest
+    by : (o : Option Source) → IfSome o (λ source. Each (λ (r : Request). is_source r source ≡ false) rest) → Each (λ (r : Request). comes_from o r ≡ false) rest
     by None h = Each-all (λ (r : Request). false ≡ false) (λ r. refl) rest
     by (Some source) h = h
 
-unnamed-both : (history : List IssuedCommand) (i : IssuedCommand) (rest : List Request) → Each (IsUnnamed history) rest → Each (λ (r : Request). is_named_by i.command r ≡ false) rest
-    → Each (IsUnnamed (history ++ i ∷ [])) rest
-unnamed-both history i [] h k = tt
-unnamed-both history i (r ∷ rs) h k =
-    (Each-append (λ (j : IssuedCommand). is_named_by j.command r ≡ false) history (i ∷ []) h.0 (k.0, tt), unnamed-both history i rs h.1 k.1)
+none_issued-both : (history : List IssuedCommand) (i : IssuedCommand) (rest : List Request) → Each (NoneIssuedFor history) rest → Each (λ (r : Request). is_issued_for i.command r ≡ false) rest
+    → Each (NoneIssuedFor (history ++ i ∷ [])) rest
+none_issued-both history i [] h k = tt
+none_issued-both history i (r ∷ rs) h k =
+    (Each-append (λ (j : IssuedCommand). is_issued_for j.command r ≡ false) history (i ∷ []) h.0 (k.0, tt), none_issued-both history i rs h.1 k.1)
 
--- a command in the name of none of these requests leaves them unnamed
-unnamed-next : (history : List IssuedCommand) (channel now : ℕ) (o : Option Command) (rest : List Request) → Each (IsUnnamed history) rest
+-- a command in the name of none of these requests leaves none issued for them
+none_issued-next : (history : List IssuedCommand) (channel now : ℕ) (o : Option Command) (rest : List Request) → Each (NoneIssuedFor history) rest
     → IfSome o (λ c. IfSome (source_in c) (λ source. Each (λ (r : Request). is_source r source ≡ false) rest))
-    → Each (IsUnnamed (history ++ issued_now channel now o)) rest
-unnamed-next history channel now None rest h k = subst (λ x. Each (IsUnnamed x) rest) (sym (append-nil history)) h
-unnamed-next history channel now (Some command) rest h k = unnamed-both history _ rest h (unnamed_by command rest k)
+    → Each (NoneIssuedFor (history ++ issued_now channel now o)) rest
+none_issued-next history channel now None rest h k = subst (λ x. Each (NoneIssuedFor x) rest) (sym (append-nil history)) h
+none_issued-next history channel now (Some command) rest h k = none_issued-both history _ rest h (none_issued_by command rest k)
 
 -- what is chosen in a cycle does not stand in the name of what arrives later
 chosen-not_later : (queue : List Request) (drained : Bool) (marks : List Bool) (stats : ChannelStats) (past : Past) (rest : List Request)
-    → HasArrivals queue drained marks stats past → Each (λ (r : Request). Each (IsOther r) rest) (requests_of past.mail)
+    → HasArrivals queue drained marks stats past → Each (λ (r : Request). Each (IsOther r) rest) (carried_requests past.mail)
     → IfSome (choice_after past) (λ c. IfSome (source_in c) (λ source. Each (λ (r : Request). is_source r source ≡ false) rest))
 unfolding queued_requests
 chosen-not_later queue drained marks stats past rest h k =
     let P = λ (source : Source). Each (λ (r : Request). is_source r source ≡ false) rest in
     let history = commands_after past in
     let waits : Each (λ (r : Request). P (source_of r)) queue =
-    subst (Each (λ (r : Request). P (source_of r))) (sym h.queue_is) (Each-filter (λ (r : Request). P (source_of r)) (is_queued history (length past.steps + 1)) (requests_of past.mail) k) in
+    subst (Each (λ (r : Request). P (source_of r))) (sym h.queue_is) (Each-filter (λ (r : Request). P (source_of r)) (is_queued history (length past.steps + 1)) (carried_requests past.mail) k) in
     subst (λ o. IfSome o (λ c. IfSome (source_in c) P)) (sym (joined-choice queue drained marks stats past h))
     (chosen-named P past.config history (length past.steps) drained queue waits)
 
@@ -181,18 +181,18 @@ fit-rest queue drained marks stats past inbox now until at h j =
     ∙ choice-same past.config past.channel past.steps ((past.mail ++ new) ++ rest) (past.mail ++ new)
     (AgreeUpTo-later (length past.steps + 1) (past.mail ++ new) rest (carries-stamped past.config past.channel (past.mail ++ new) j.requests) (carries-stamped past.config past.channel rest carries)
     (Each-weaker (λ (m : Message). now + 1 ≤ m.arrival) (λ (m : Message). length past.steps + 1 ≤ m.arrival) (λ m l. omega arith) rest late)) in
-    let apart = split-differ (requests_of (past.mail ++ new)) (requests_of rest) (subst Differ (ap requests_of whole ∙ requests-append (past.mail ++ new) rest) h.differ) in
-    let before : Each (IsUnnamed (commands_after past)) (requests_of rest) =
-    Each-last (IsUnnamed (commands_after past)) (requests_of new) (requests_of rest)
-    (subst (Each (IsUnnamed (commands_after past))) (ap requests_of (sym (take-append-drop n inbox)) ∙ requests-append new rest) h.unnamed) in (
+    let apart = split-differ (carried_requests (past.mail ++ new)) (carried_requests rest) (subst Differ (ap carried_requests whole ∙ requests-append (past.mail ++ new) rest) h.differ) in
+    let before : Each (NoneIssuedFor (commands_after past)) (carried_requests rest) =
+    Each-last (NoneIssuedFor (commands_after past)) (carried_requests new) (carried_requests rest)
+    (subst (Each (NoneIssuedFor (commands_after past))) (ap carried_requests (sym (take-append-drop n inbox)) ∙ requests-append new rest) h.none_issued) in (
       record {
         requests = carries;
         by_age = split-age n inbox h.by_age;
         in_span = both (now + 1) until rest late (Each-weaker (λ (m : Message). (now ≤ m.arrival) × (m.arrival < until)) (λ (m : Message). m.arrival < until) (λ m k. k.1) rest (split-each (λ (m : Message). (now ≤ m.arrival) × (m.arrival < until)) n inbox h.in_span).1);
-        differ = subst Differ (ap requests_of whole) h.differ;
-        unnamed = subst (λ x. Each (IsUnnamed x) (requests_of rest)) (sym (issued_commands-push past.channel past.steps o))
-            (unnamed-next (commands_after past) past.channel (length past.steps) o (requests_of rest) before
-            (chosen-not_later queue drained marks stats (with_mail past new) (requests_of rest) j apart.1));
+        differ = subst Differ (ap carried_requests whole) h.differ;
+        none_issued = subst (λ x. Each (NoneIssuedFor x) (carried_requests rest)) (sym (issued_commands-push past.channel past.steps o))
+            (none_issued-next (commands_after past) past.channel (length past.steps) o (carried_requests rest) before
+            (chosen-not_later queue drained marks stats (with_mail past new) (carried_requests rest) j apart.1));
         room = λ k l. fits k (h.room (suc k) (omega arith)) whole same;
       },
       same,

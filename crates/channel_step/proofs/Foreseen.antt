@@ -13,8 +13,8 @@ use Rattle.channel_step.specs.FrFcfs.Choices.{choice_in, command_of, IsFor}
 use Rattle.channel_step.specs.Past.{Past, commands_after}
 use Rattle.channel_step.specs.Queued.{request_at, drain_decided}
 use Rattle.channel_step.specs.FrFcfs.Cycles.{IsNext}
-use Rattle.channel_step.specs.declared.fr_fcfs.choice.Choice.{Choice}
-use Rattle.channel_step.specs.declared.fr_fcfs.choice.Choice.TheVariants as chosen
+use Rattle.channel_step.specs.declared.fr_fcfs.choice.Need.{Need}
+use Rattle.channel_step.specs.declared.fr_fcfs.choice.Need.TheVariants as Needs
 use Rattle.channel_step.specs.Channels.{IsNextCommand, IsNextCommandAt, IsForeseen, IsFound, IsInCycle, HasPast}
 use Rattle.channel_step.specs.declared.channel.Channel.{Channel}
 use Rattle.channel_step.specs.declared.next_command.NextCommand.{NextCommand}
@@ -28,9 +28,9 @@ next_command-from s history queue from (Known None) h = h.never refl
 next_command-from s history queue from (Known (Some next)) h = h.at next.0 next.1 refl
 
 pub foreseen-from : (s : Config) (history : List IssuedCommand) (queue : QueueView) (from : ℕ) (next_command : NextCommand) → IsNextCommand s history queue from next_command → IsForeseen s history queue from next_command
-foreseen-from s history queue from Unknown h = record { never = λ e. cc; at = λ cycle choice e. cc }
-foreseen-from s history queue from (Known None) h = record { never = λ e. h; at = λ cycle choice e. cc }
-foreseen-from s history queue from (Known (Some next)) h = record { never = λ e. cc; at = λ cycle choice e. subst (IsNextCommand s history queue from) e h }
+foreseen-from s history queue from Unknown h = record { never = λ e. cc; at = λ cycle need e. cc }
+foreseen-from s history queue from (Known None) h = record { never = λ e. h; at = λ cycle need e. cc }
+foreseen-from s history queue from (Known (Some next)) h = record { never = λ e. cc; at = λ cycle need e. subst (IsNextCommand s history queue from) e h }
 
 -- what is foreseen of the next command is so from each later cycle on
 next_command-later : (s : Config) (history : List IssuedCommand) (queue : QueueView) (from later : ℕ) (next_command : NextCommand) → from ≤ later → IsNextCommand s history queue from next_command → IsNextCommand s history queue later next_command
@@ -58,12 +58,12 @@ next_command-drain_decided s history queue from (Known (Some next)) h = record {
 }
 
 -- what was found is known from the cycle on in which it was looked for
-found-next_command : (s : Config) (history : List IssuedCommand) (queue : QueueView) (now : ℕ) (next : Option (ℕ × Choice)) → IsNext (choice_in s history queue) (command_of s history queue.log) now next
+found-next_command : (s : Config) (history : List IssuedCommand) (queue : QueueView) (now : ℕ) (next : Option (ℕ × Need)) → IsNext (choice_in s history queue) (command_of s history queue.log) now next
     → IfSome next (λ n. IsFor s.ranks queue.log n.1) → IsNextCommand s history queue now (Known next)
 found-next_command s history queue now None h place = h
 found-next_command s history queue now (Some next) h place = record { then_is = h.then_is; none_before = h.none_before; place = place }
 
-pub kept-in_cycle : (c : Channel) (past : Past) (now : ℕ) (next : Option (ℕ × Choice)) → IsInCycle c past → now ≡ c.cycle
+pub kept-in_cycle : (c : Channel) (past : Past) (now : ℕ) (next : Option (ℕ × Need)) → IsInCycle c past → now ≡ c.cycle
     → IsFound c past.config (commands_after past) now next → IsInCycle (record c { next_command = Known next }) past
 kept-in_cycle c past now next h at f =
     let history = commands_after past in
@@ -92,7 +92,7 @@ kept-in_cycle c past now next h at f =
     }
 
 -- a channel between two cycles still stands for its past when it keeps the next command that was found
-pub kept-stands : (c : Channel) (past : Past) (now : ℕ) (next : Option (ℕ × Choice)) → HasPast c past → now ≡ c.cycle
+pub kept-stands : (c : Channel) (past : Past) (now : ℕ) (next : Option (ℕ × Need)) → HasPast c past → now ≡ c.cycle
     → IsFound c past.config (commands_after past) now next → HasPast (record c { next_command = Known next }) past
 kept-stands c past now next h at f =
     let history = commands_after past in
@@ -140,44 +140,44 @@ taken-place (suc n) place [] l w = absurd (omega arith)
 taken-place (suc n) zero (a ∷ log) l w = (omega arith, w, refl)
 taken-place (suc n) (suc place) (a ∷ log) l w = let rest = taken-place n place log (omega arith) w in (omega (arith, rest.0), rest.1, rest.2)
 
--- what was chosen among the first requests of a log is chosen among all, and needs the same
-pub taken-for : (n ranks : ℕ) (log earlier : List Arrived) (choice : Choice) → earlier ≡ take n log → IsFor ranks earlier choice → IsFor ranks log choice
-taken-for n ranks log earlier (chosen.Request place) is h =
+-- what needs a command among the first requests of a log is there among all, and needs the same
+pub taken-for : (n ranks : ℕ) (log earlier : List Arrived) (need : Need) → earlier ≡ take n log → IsFor ranks earlier need → IsFor ranks log need
+taken-for n ranks log earlier (Needs.Request place) is h =
     let k = subst (λ x. (place < length x) × (waits_at x place ≡ true)) is h in
     let there = taken-place n place log k.0 k.1 in
     (there.0, there.1)
-taken-for n ranks log earlier (chosen.Refresh rank) is h = h
+taken-for n ranks log earlier (Needs.Refresh rank) is h = h
 
-taken-command : (s : Config) (history : List IssuedCommand) (n : ℕ) (log earlier : List Arrived) (choice : Choice) → earlier ≡ take n log → IsFor s.ranks earlier choice
-    → command_of s history earlier choice ≡ command_of s history log choice
-taken-command s history n log earlier (chosen.Request place) is h =
+taken-command : (s : Config) (history : List IssuedCommand) (n : ℕ) (log earlier : List Arrived) (need : Need) → earlier ≡ take n log → IsFor s.ranks earlier need
+    → command_of s history earlier need ≡ command_of s history log need
+taken-command s history n log earlier (Needs.Request place) is h =
     let k = subst (λ x. (place < length x) × (waits_at x place ≡ true)) is h in
     ap (λ x. option_map (needed history) (slice_get (all_requests x) place)) is ∙ ap (option_map (needed history)) (taken-place n place log k.0 k.1).2
-taken-command s history n log earlier (chosen.Refresh rank) is h = refl
+taken-command s history n log earlier (Needs.Refresh rank) is h = refl
 
 request-some : (place : ℕ) (log : List Arrived) → place < length log → slice_get (all_requests log) place ≡ Some (request_at log place)
 request-some place [] l = absurd (omega arith)
 request-some zero (a ∷ log) l = refl
 request-some (suc place) (a ∷ log) l = request-some place log (omega arith)
 
--- what a choice needs
-pub needs : (s : Config) (history : List IssuedCommand) (log : List Arrived) (choice : Choice) → IsFor s.ranks log choice → (command : Command) × (command_of s history log choice ≡ Some command)
-needs s history log (chosen.Request place) h = (needed history (request_at log place), ap (option_map (needed history)) (request-some place log h.0))
-needs s history log (chosen.Refresh rank) h = (refresh_command s history rank, refl)
+-- what a need asks for
+pub needs : (s : Config) (history : List IssuedCommand) (log : List Arrived) (need : Need) → IsFor s.ranks log need → (command : Command) × (command_of s history log need ≡ Some command)
+needs s history log (Needs.Request place) h = (needed history (request_at log place), ap (option_map (needed history)) (request-some place log h.0))
+needs s history log (Needs.Refresh rank) h = (refresh_command s history rank, refl)
 
-pub request-needs : (s : Config) (history : List IssuedCommand) (log : List Arrived) (place : ℕ) → place < length log → command_of s history log (chosen.Request place) ≡ Some (needed history (request_at log place))
+pub request-needs : (s : Config) (history : List IssuedCommand) (log : List Arrived) (place : ℕ) → place < length log → command_of s history log (Needs.Request place) ≡ Some (needed history (request_at log place))
 request-needs s history log place l = ap (option_map (needed history)) (request-some place log l)
 
 -- What was found is so still where what is next stays so with the requests that follow.
-pub next_command-kept : (s : Config) (history : List IssuedCommand) (earlier queue : QueueView) (n from cycle : ℕ) (choice : Choice) → earlier.log ≡ take n queue.log
-    → ((command : Command) → command_of s history queue.log choice ≡ Some command → KeepsNext (choice_in s history earlier) (choice_in s history queue) cycle command)
-    → IsNextCommandAt s history earlier from cycle choice → IsNextCommandAt s history queue from cycle choice
-next_command-kept s history earlier queue n from cycle choice is keeps h =
-    let place = taken-for n s.ranks queue.log earlier.log choice is h.place in
-    let need = needs s history queue.log choice place in
-    let k = keeps need.0 need.1 in
+pub next_command-kept : (s : Config) (history : List IssuedCommand) (earlier queue : QueueView) (n from cycle : ℕ) (need : Need) → earlier.log ≡ take n queue.log
+    → ((command : Command) → command_of s history queue.log need ≡ Some command → KeepsNext (choice_in s history earlier) (choice_in s history queue) cycle command)
+    → IsNextCommandAt s history earlier from cycle need → IsNextCommandAt s history queue from cycle need
+next_command-kept s history earlier queue n from cycle need is keeps h =
+    let place = taken-for n s.ranks queue.log earlier.log need is h.place in
+    let asked = needs s history queue.log need place in
+    let k = keeps asked.0 asked.1 in
     record {
-      then_is = k.then_is (h.then_is ∙ taken-command s history n queue.log earlier.log choice is h.place ∙ need.1) ∙ sym need.1;
+      then_is = k.then_is (h.then_is ∙ taken-command s history n queue.log earlier.log need is h.place ∙ asked.1) ∙ sym asked.1;
       none_before = λ t late early. k.none_before t early (h.none_before t late early);
       place = place;
     }

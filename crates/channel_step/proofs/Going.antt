@@ -15,13 +15,13 @@ use Rattle.sim_base.specs.declared.command.Command.{Command}
 use Rattle.sim_base.specs.declared.message.Message.{Message}
 use Rattle.sim_base.proofs.Arrived.{before_le}
 use Rattle.statistics.proofs.ChannelCounts.{AgreeUpTo-later, issued_commands-push}
-use Rattle.channel_step.specs.Past.{requests_of, CarriesRequest, past_of, Past, commands_after, choice_after, with_mail}
-use Rattle.channel_step.specs.Fit.{IsUnnamed, ComeByAge, IsFit, IsIdle, IsFitAfter}
+use Rattle.channel_step.specs.Past.{carried_requests, CarriesRequest, past_of, Past, commands_after, choice_after, with_mail}
+use Rattle.channel_step.specs.Fit.{NoneIssuedFor, ComeByAge, IsFit, IsIdle, IsFitAfter}
 use Rattle.queue.specs.Log.{waiting_requests}
 use Rattle.channel_step.specs.Queued.{activated_in}
 use Rattle.channel_step.specs.Stands.{HasArrivals}
 use Rattle.channel_step.specs.Channels.{StandsFor, IsInCycle, IsNextIn}
-use Rattle.channel_step.specs.Runs.{first_arrival, HasRun, steps_on}
+use Rattle.channel_step.specs.Runs.{first_arrival_or, HasRun, steps_on}
 use Rattle.channel_step.specs.declared.channel.Channel.{Channel}
 use Rattle.channel_step.proofs.Requests.{carries-stamped}
 use Rattle.channel_step.proofs.Running.{rest_of}
@@ -31,14 +31,14 @@ use Rattle.channel_step.proofs.Stretches.{length-idle, idle-issued, idle-message
 use Rattle.channel_step.proofs.Fits.{due_count, fit-later, fit-rest, fit-taken, none-due}
 
 -- no message arrives before the first
-arrive-from : (next until : ℕ) (inbox : List Message) → ComeByAge inbox → next ≤ first_arrival inbox until → Each (λ (m : Message). next ≤ m.arrival) inbox
+arrive-from : (next until : ℕ) (inbox : List Message) → ComeByAge inbox → next ≤ first_arrival_or inbox until → Each (λ (m : Message). next ≤ m.arrival) inbox
 arrive-from next until [] h l = tt
 arrive-from next until (m ∷ ms) h l =
     (l, Each-weaker (λ (n : Message). is_before m n ≡ true) (λ (n : Message). next ≤ n.arrival) (λ n k. omega (arith, before_le m n k)) ms h.0)
 
 -- the first message of an inbox arrives within the span
 arrival-within : (now until : ℕ) (inbox : List Message) → now ≤ until → Each (λ (m : Message). (now ≤ m.arrival) × (m.arrival < until)) inbox
-    → (now ≤ first_arrival inbox until) × (first_arrival inbox until ≤ until)
+    → (now ≤ first_arrival_or inbox until) × (first_arrival_or inbox until ≤ until)
 arrival-within now until [] l h = (l, omega arith)
 arrival-within now until (m ∷ ms) l h = let a = h.0.0 in let b = h.0.1 in (a, omega arith)
 
@@ -64,7 +64,7 @@ idle-fit past inbox now until n at f late is =
       by_age = f.by_age;
       in_span = in_span-from now (now + n) until inbox late f.in_span;
       differ = f.differ;
-      unnamed = subst (λ x. Each (IsUnnamed x) (requests_of inbox)) (sym (idle-issued past.channel past.steps n)) f.unnamed;
+      none_issued = subst (λ x. Each (NoneIssuedFor x) (carried_requests inbox)) (sym (idle-issued past.channel past.steps n)) f.none_issued;
       room = λ k l.
           let e : now + (n + k) ≡ now + n + k = omega arith in
           let x : queue_length past.channel (channel_run past.config past.channel past.steps all (n + k)) all (now + (n + k)) ≡ queue_length past.channel (channel_run past.config past.channel (past.steps ++ replicate n None) all k) all (now + n + k) =
@@ -79,7 +79,7 @@ pub record Goes (past : Past) (inbox : List Message) (now until n end : ℕ) : T
   pub fit : IsFitAfter past inbox now until
   pub span : now < until
   pub due : n ≡ due_count inbox now
-  pub end_is : end ≡ first_arrival (drop n inbox) until
+  pub end_is : end ≡ first_arrival_or (drop n inbox) until
   pub carry : Each (CarriesRequest past.config past.channel) (past.mail ++ take n inbox)
 
 -- the messages that a channel has not taken in on its way to the next arrival arrive later
@@ -204,7 +204,7 @@ acts c d past inbox now until n end cycle command h i in_cycle stands =
 
 -- a channel that has taken in what arrives in a cycle is on its way to the next arrival
 pub goes : (d : Channel) (past : Past) (inbox : List Message) (now until n end : ℕ) → IsInCycle d (with_mail past (take n inbox)) → length past.steps ≡ now
-    → IsFitAfter past inbox now until → now < until → n ≡ length (take_while (λ (m : Message). eqb m.arrival now) inbox) → end ≡ first_arrival (rest_of inbox n) until
+    → IsFitAfter past inbox now until → now < until → n ≡ length (take_while (λ (m : Message). eqb m.arrival now) inbox) → end ≡ first_arrival_or (rest_of inbox n) until
     → Goes past inbox now until n end
 goes d past inbox now until n end h at f l e then =
     record {
@@ -212,6 +212,6 @@ goes d past inbox now until n end h at f l e then =
       fit = f;
       span = l;
       due = e ∙ due_count-is inbox now;
-      end_is = then ∙ ap (λ x. first_arrival x until) (take_rest inbox n);
+      end_is = then ∙ ap (λ x. first_arrival_or x until) (take_rest inbox n);
       carry = h.joined.requests;
     }

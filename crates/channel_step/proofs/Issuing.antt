@@ -94,7 +94,7 @@ readied c past command hit log bank_candidates served h chosen hit_is all left m
       within_before = omega (arith, ap length j.queue_is);
       queue_is = left ∙ ap (unserved_by command) j.queue_is ∙ sym (queued_requests-command history row past.mail (length past.steps + 1));
       drained_is = j.drained_is;
-      marks_are = marks;
+      activated_are = marks;
       stats_are = j.stats_are;
       candidates_stand =
           same_rows bank_candidates log (λ bank. row_after (bank_at bank) (open_row (bank_at bank) history) command)
@@ -196,7 +196,7 @@ issued-stands c past command hit seen banks refresh h e b r =
         };
         queue_is = h.queue_is ∙ ap₂ (λ x u. queued_requests x past.mail u) (sym issued) (one ∙ sym len);
         drained_is = h.drained_is ∙ sym (drains_before-row past.config past.channel past.steps o past.mail);
-        marks_are = h.marks_are ∙ ap (λ x. activated_of x (waiting_requests c.queue.log)) (sym issued);
+        activated_are = h.activated_are ∙ ap (λ x. activated_of x (waiting_requests c.queue.log)) (sym issued);
         stats_are = counted-is c past command hit seen h e;
       };
       candidates_stand = subst (CandidatesStand c.bank_candidates c.queue.log) (sym issued) h.candidates_stand;

@@ -18,15 +18,15 @@ use Rattle.sim_base.proofs.Accesses.{column_both}
 use Rattle.sim_base.proofs.Each.{Each-all}
 use Rattle.sim_base.proofs.Lists.{filter-each, filter-agree}
 use Rattle.channel_step.specs.Stands.{activated_of}
-use Rattle.channel_step.specs.Past.{Differ, is_named}
-use Rattle.channel_step.specs.Fit.{is_named_by, IsUnnamed}
+use Rattle.channel_step.specs.Past.{Differ, has_act}
+use Rattle.channel_step.specs.Fit.{is_issued_for, NoneIssuedFor}
 use Rattle.channel_step.proofs.Requests.{unserved_by, unserved-remove}
 
 pub map-agree : {X Y : Type 0} (f g : X → Y) (xs : List X) → Each (λ x. f x ≡ g x) xs → map f xs ≡ map g xs
 map-agree f g [] h = refl
 map-agree f g (x ∷ xs) h = ap₂ (λ y ys. y ∷ ys) h.0 (map-agree f g xs h.1)
 
-act-named : (r : Request) (command : Command) → is_named_by command r ≡ false → is_act_for (source_of r) command ≡ false
+act-named : (r : Request) (command : Command) → is_issued_for command r ≡ false → is_act_for (source_of r) command ≡ false
 act-named r (Act bank row source) h = h
 act-named r (Rd bank row column source) h = refl
 act-named r (Wr bank row column source) h = refl
@@ -35,18 +35,18 @@ act-named r (Prea rank) h = refl
 act-named r (Ref rank) h = refl
 
 -- what no command names has no mark
-pub unnamed-no_mark : (history : List IssuedCommand) (r : Request) → IsUnnamed history r → is_named history r ≡ false
-unnamed-no_mark [] r h = refl
-unnamed-no_mark (i ∷ history) r h = ap₂ (λ a b. a || b) (act-named r i.command h.0) (unnamed-no_mark history r h.1)
+pub none_issued-no_mark : (history : List IssuedCommand) (r : Request) → NoneIssuedFor history r → has_act history r ≡ false
+none_issued-no_mark [] r h = refl
+none_issued-no_mark (i ∷ history) r h = ap₂ (λ a b. a || b) (act-named r i.command h.0) (none_issued-no_mark history r h.1)
 
-pub unnamed-marks : (history : List IssuedCommand) (rs : List Request) → Each (IsUnnamed history) rs → activated_of history rs ≡ map (λ r. false) rs
-unnamed-marks history rs h = map-agree (is_named history) (λ r. false) rs (Each-weaker (IsUnnamed history) _ (unnamed-no_mark history) rs h)
+pub none_issued-marks : (history : List IssuedCommand) (rs : List Request) → Each (NoneIssuedFor history) rs → activated_of history rs ≡ map (λ r. false) rs
+none_issued-marks history rs h = map-agree (has_act history) (λ r. false) rs (Each-weaker (NoneIssuedFor history) _ (none_issued-no_mark history) rs h)
 
 -- one command more may name a request
-pub named-command : (history : List IssuedCommand) (i : IssuedCommand) (r : Request) → is_named (history ++ i ∷ []) r ≡ (is_named history r || is_act_for (source_of r) i.command)
+pub named-command : (history : List IssuedCommand) (i : IssuedCommand) (r : Request) → has_act (history ++ i ∷ []) r ≡ (has_act history r || is_act_for (source_of r) i.command)
 named-command history i r =
     list_any-append (λ (j : IssuedCommand). is_act_for (source_of r) j.command) history (i ∷ [])
-    ∙ ap (λ b. is_named history r || b) (or-false (is_act_for (source_of r) i.command))
+    ∙ ap (λ b. has_act history r || b) (or-false (is_act_for (source_of r) i.command))
 
 -- a command that opens no row
 abbrev pub opens_none : Command → Bool
@@ -68,15 +68,15 @@ no_act source (Ref rank) h = refl
 -- a command that opens no row leaves the marks as they are
 pub marks-no_act : (history : List IssuedCommand) (i : IssuedCommand) (rs : List Request) → opens_none i.command ≡ true → activated_of (history ++ i ∷ []) rs ≡ activated_of history rs
 marks-no_act history i rs h =
-    map-agree (is_named (history ++ i ∷ [])) (is_named history) rs
-    (Each-all _ (λ r. named-command history i r ∙ ap (λ b. is_named history r || b) (no_act (source_of r) i.command h) ∙ or-false (is_named history r)) rs)
+    map-agree (has_act (history ++ i ∷ [])) (has_act history) rs
+    (Each-all _ (λ r. named-command history i r ∙ ap (λ b. has_act history r || b) (no_act (source_of r) i.command h) ∙ or-false (has_act history r)) rs)
 
 -- an ACT adds the mark of the request of its entry
 pub marks-act : (history : List IssuedCommand) (i : IssuedCommand) (rs : List Request) (bank : BankId) (row : ℕ) (source : Source) → i.command ≡ Act bank row source
-    → activated_of (history ++ i ∷ []) rs ≡ map (λ r. is_named history r || is_source r source) rs
+    → activated_of (history ++ i ∷ []) rs ≡ map (λ r. has_act history r || is_source r source) rs
 marks-act history i rs bank row source e =
-    map-agree (is_named (history ++ i ∷ [])) (λ r. is_named history r || is_source r source) rs
-    (Each-all _ (λ r. named-command history i r ∙ ap (λ c. is_named history r || is_act_for (source_of r) c) e) rs)
+    map-agree (has_act (history ++ i ∷ [])) (λ r. has_act history r || is_source r source) rs
+    (Each-all _ (λ r. named-command history i r ∙ ap (λ c. has_act history r || is_act_for (source_of r) c) e) rs)
 
 -- what holds of its RD and of its WR holds of the column command of a request
 pub column_either : (P : Command → Type 0) (r : Request) → P (Rd (bank_in r.place) r.place.row r.place.column (source_of r)) → P (Wr (bank_in r.place) r.place.row r.place.column (source_of r))
@@ -107,8 +107,8 @@ pub served-none : (rs : List Request) (command : Command) → is_column_command 
 served-none rs command h = filter-each (λ q. not (serves q command)) rs (Each-all _ (λ q. ap not (serves_none q command h)) rs)
 
 -- a column command is a row hit where its request has no mark
-pub hit-mark : (history : List IssuedCommand) (r : Request) → is_hit history (column_command r) ≡ not (is_named history r)
-hit-mark history r = column_either (λ c. is_hit history c ≡ not (is_named history r)) r refl refl
+pub hit-mark : (history : List IssuedCommand) (r : Request) → is_hit history (column_command r) ≡ not (has_act history r)
+hit-mark history r = column_either (λ c. is_hit history c ≡ not (has_act history r)) r refl refl
 
 pub column-opens_none : (r : Request) → opens_none (column_command r) ≡ true
 column-opens_none r = column_either (λ c. opens_none c ≡ true) r refl refl

@@ -1,34 +1,25 @@
 -- Where the requests that wait lie.
-use Rattle.std.proofs.Common.{◌≡◌, ℕ, ◌*◌, ◌<◌, ◌≤◌, ◌%◌, ◌/◌, List, [], ◌∷◌, sym, subst, arith, mod-lt}
+use Rattle.std.proofs.Common.{◌≡◌, ℕ, ◌*◌, ◌<◌, ◌≤◌, ◌/◌, List, sym, subst, arith}
 use Rattle.std.specs.List.{All, AllByRecursion as Each}
-use Rattle.std.proofs.lemmas.Bool.{cond_both}
 use Rattle.std.proofs.lemmas.List.Elements.{All-weaker}
+use Rattle.sim_base.proofs.Banks.{digit_below}
 use Rattle.sim_base.proofs.Each.{Each-all, Each-filter}
 use Rattle.sim_base.proofs.Ordered.{Each-weaker}
 use Rattle.sim_base.specs.declared.config.Config.{Config}
-use Rattle.sim_base.specs.Fields.{is_field}
-use Rattle.sim_base.specs.Places.{field_size, digit_of, field_of, place_of}
+use Rattle.sim_base.specs.Places.{digit_of, field_of, place_of}
 use Rattle.sim_base.specs.Scheduling.{is_queued, queued_requests}
 use Rattle.sim_base.specs.declared.command.IssuedCommand.{IssuedCommand}
 use Rattle.sim_base.specs.declared.message.Message.{Message}
 use Rattle.sim_base.specs.declared.message.Request.{Request}
 use Rattle.sim_base.specs.declared.place.Place.{Place}
-use Rattle.sim_base.specs.declared.place.Field.{Field}
 use Rattle.sim_base.specs.declared.place.Field.TheVariants.{Rank, Group, Bank}
 use Rattle.queue.specs.declared.request_log.Arrived.{Arrived}
 use Rattle.queue.specs.Log.{all_requests}
 use Rattle.queue.specs.Columns.{bank_number}
 use Rattle.std.proofs.lemmas.List.{get_or-map, length-map}
 use Rattle.channel_step.specs.FrFcfs.Requests.{IsInBanks}
-use Rattle.channel_step.specs.Past.{requests_of, IsRequestOf, CarriesRequest}
+use Rattle.channel_step.specs.Past.{carried_requests, IsRequestOf, CarriesRequest}
 use Rattle.channel_step.proofs.Requests.{carried}
-
-digit-below : (s : Config) (field : Field) (fields : List Field) (x : ℕ) → 0 < field_size s field → digit_of s field fields x < field_size s field
-unfolding digit_of
-digit-below s field [] x h = h
-digit-below s field (f ∷ fs) x h =
-    cond_both (is_field field f) (x % field_size s field) (digit_of s field fs (x / field_size s f)) (λ v. v < field_size s field)
-    (λ e. mod-lt x h) (λ e. digit-below s field fs (x / field_size s f) h)
 
 -- an address lies in one of the banks
 abbrev pub InBanks : Config → Request → Type 0
@@ -40,9 +31,9 @@ place-in_banks s address =
     let ranks : 1 ≤ s.ranks = s.memory_in_range.ranks_in.0.0 in
     let groups : 2 ≤ s.groups = s.memory_in_range.groups_in.0.0 in
     let most : s.groups ≤ 4 = s.memory_in_range.groups_in.0.1 in
-    let a : digit_of s Rank s.fields (address / 64) < s.ranks = digit-below s Rank s.fields (address / 64) (omega arith) in
-    let b : digit_of s Group s.fields (address / 64) < s.groups = digit-below s Group s.fields (address / 64) (omega arith) in
-    let d : digit_of s Bank s.fields (address / 64) < 4 = digit-below s Bank s.fields (address / 64) (omega arith) in
+    let a : digit_of s Rank s.fields (address / 64) < s.ranks = digit_below s Rank s.fields (address / 64) (omega arith) in
+    let b : digit_of s Group s.fields (address / 64) < s.groups = digit_below s Group s.fields (address / 64) (omega arith) in
+    let d : digit_of s Bank s.fields (address / 64) < 4 = digit_below s Bank s.fields (address / 64) (omega arith) in
     (a, omega arith, d)
 
 pub request-in_banks : (s : Config) (channel : ℕ) (m : Message) (r : Request) → IsRequestOf s channel m r → InBanks s r
@@ -54,7 +45,7 @@ pub queued_requests-in_banks : (s : Config) (channel : ℕ) (history : List Issu
     → Each (InBanks s) (queued_requests history mail until)
 unfolding queued_requests
 queued_requests-in_banks s channel history mail until h =
-    Each-filter (InBanks s) (is_queued history until) (requests_of mail)
+    Each-filter (InBanks s) (is_queued history until) (carried_requests mail)
     (carried s channel (InBanks s) mail h (Each-all _ (λ m r i. request-in_banks s channel m r i) mail))
 
 pub queue-ranks : (s : Config) (channel : ℕ) (history : List IssuedCommand) (mail : List Message) (until : ℕ) (queue : List Request)

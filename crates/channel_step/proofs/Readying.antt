@@ -21,18 +21,19 @@ use Rattle.queue.proofs.Activated.{all_activated, waiting_activated}
 use Rattle.queue.proofs.Places.{all_served}
 use Rattle.queue.specs.declared.bank_candidates.all_banks.BankCandidates.{BankCandidates}
 use Rattle.queue.specs.Stands.{bank_count, IsBankOf, with_row, closed_in, StandsFor as CandidatesStandFor}
-use Rattle.queue.proofs.Stood.{same_rows, bank_named}
+use Rattle.queue.proofs.Stood.{same_rows}
+use Rattle.sim_base.proofs.Banks.{number_names_bank}
 use Rattle.queue.proofs.Waits.{request_at as placed_at}
 use Rattle.request_table.specs.declared.served_requests.ServedRequest.{ServedRequest}
 use Rattle.statistics.specs.Channels.{issues_hit}
 use Rattle.channel_step.specs.FrFcfs.Requests.{IsInBanks, KnowsRows}
-use Rattle.channel_step.specs.Past.{is_named, Past, commands_after, choice_after}
+use Rattle.channel_step.specs.Past.{has_act, Past, commands_after, choice_after}
 use Rattle.channel_step.specs.Stands.{activated_of}
 use Rattle.channel_step.specs.Queued.{request_at, served_now, kept_rows}
 use Rattle.channel_step.specs.Runs.{with_more}
 use Rattle.channel_step.specs.Channels.{CandidatesStand, IsInCycle}
 use Rattle.channel_step.specs.Readied.{IsChosen, IsDoing, as_issued, IsReadied}
-use Rattle.channel_step.specs.declared.fr_fcfs.choice.Choice.TheVariants as chosen
+use Rattle.channel_step.specs.declared.fr_fcfs.choice.Need.TheVariants as Needs
 use Rattle.channel_step.specs.declared.channel.Channel.{Channel}
 use Rattle.channel_step.proofs.Cycle.{joined-differ}
 use Rattle.channel_step.proofs.Foreseen.{request-needs}
@@ -65,7 +66,7 @@ none_issued-readied c past command bank_candidates h chosen opens none_issued no
     let history = commands_after past in
     let row = as_issued past.channel (length past.steps) command in
     readied c past command false c.queue.log bank_candidates c.served h chosen no_hit refl (sym (served-none (waiting_requests c.queue.log) command none_issued))
-    (h.joined.marks_are ∙ sym (marks-no_act history row (waiting_requests c.queue.log) opens)) count stands
+    (h.joined.activated_are ∙ sym (marks-no_act history row (waiting_requests c.queue.log) opens)) count stands
     (kept-none_issued c.served history row past.mail (late-none past.config past.channel past.steps past.mail command chosen) none_issued h.keeps_served)
 
 -- a PRE closes the bank of a request
@@ -82,7 +83,7 @@ closed-readied c past place bank_candidates h l chosen count stands =
     let among = placed-among c past place h l in
     none_issued-readied c past (Pre bank (source_of r)) bank_candidates h chosen refl refl refl count
     (same_rows bank_candidates c.queue.log (with_row (number_of_bank bank) None rows) (λ n. row_after (bank_at n) (rows n) (Pre bank (source_of r))) stands
-    (λ n there. ap (λ t. cond t None (rows n)) (bank_named n bank among.group among.bank)))
+    (λ n there. ap (λ t. cond t None (rows n)) (number_names_bank n bank among.group among.bank)))
 
 -- an ACT opens a row in it, and marks the request
 pub opened-readied : (c : Channel) (past : Past) (place : ℕ) (bank_candidates : BankCandidates) → IsInCycle c past
@@ -103,12 +104,12 @@ opened-readied c past place bank_candidates h l w chosen count stands =
     let differ = joined-differ _ _ _ _ past h.joined in
     readied c past act false (activated_at log place) bank_candidates c.served h chosen refl (all_activated log place)
     (waiting_activated log place ∙ sym (served-none (waiting_requests log) act refl))
-    (activated-marks (is_named history) log place l w differ h.joined.marks_are
+    (activated-marks (has_act history) log place l w differ h.joined.activated_are
     ∙ sym (marks-act history row (waiting_requests log) bank r.place.row (source_of r) refl)
     ∙ ap (activated_of (history ++ row ∷ [])) (sym (waiting_activated log place)))
     count
     (same_rows bank_candidates (activated_at log place) (with_row (number_of_bank bank) (Some r.place.row) rows) (λ n. row_after (bank_at n) (rows n) act) stands
-    (λ n there. ap (λ t. cond t (Some r.place.row) (rows n)) (bank_named n bank among.group among.bank)))
+    (λ n there. ap (λ t. cond t (Some r.place.row) (rows n)) (number_names_bank n bank among.group among.bank)))
     (kept-none_issued c.served history row past.mail (late-none past.config past.channel past.steps past.mail act chosen) refl h.keeps_served)
 
 column-rows : (bank : BankId) (row : Option ℕ) (r : Request) → row ≡ row_after bank row (column_command r)
@@ -134,9 +135,9 @@ served-readied c past place bank_candidates served h l w chosen count stands mor
     let rows : ℕ → Option ℕ = λ n. open_row (bank_at n) history in
     let differ = joined-differ _ _ _ _ past j in
     let no_act = column-opens_none r in
-    let is_hit : issues_hit history (Some command) ≡ hit = hit-mark history r ∙ ap not (sym (mark-at (is_named history) log place l w j.marks_are)) in
+    let is_hit : issues_hit history (Some command) ≡ hit = hit-mark history r ∙ ap not (sym (mark-at (has_act history) log place l w j.activated_are)) in
     readied c past command hit (served_at log place) bank_candidates served h chosen is_hit (all_served log place) (served-waits log place l w differ)
-    (served-marks (is_named history) log place j.marks_are ∙ sym (marks-no_act history row (waiting_requests (served_at log place)) no_act))
+    (served-marks (has_act history) log place j.activated_are ∙ sym (marks-no_act history row (waiting_requests (served_at log place)) no_act))
     count
     (same_rows bank_candidates (served_at log place) rows (λ n. row_after (bank_at n) (rows n) command) stands (λ n there. column-rows (bank_at n) (rows n) r))
     (kept-served c.served served history row r hit past.mail (length past.steps + 1) refl (late-none past.config past.channel past.steps past.mail command chosen)
@@ -170,10 +171,10 @@ pub needed-moving : (history : List IssuedCommand) (r : Request) (row : ℕ) →
 needed-moving history r row e same = needed-with history r (Some row) e ∙ cond-true (eqb row r.place.row) (column_command r) (Pre (bank_in r.place) (source_of r)) (eq-eqb row r.place.row same)
 
 -- what was chosen is what the request at a place needs
-pub chosen-needs : (c : Channel) (place : ℕ) (p : IsChosen c (chosen.Request place)) → Some (needed (issued_commands p.past.channel p.past.steps) (request_at c.queue.log place)) ≡ choice p.past.config p.past.channel p.past.steps p.past.mail
+pub chosen-needs : (c : Channel) (place : ℕ) (p : IsChosen c (Needs.Request place)) → Some (needed (issued_commands p.past.channel p.past.steps) (request_at c.queue.log place)) ≡ choice p.past.config p.past.channel p.past.steps p.past.mail
 chosen-needs c place p = sym (request-needs p.past.config (issued_commands p.past.channel p.past.steps) c.queue.log place p.place.0) ∙ p.needed ∙ p.is_chosen
 
-pub doing : (c : Channel) (place : ℕ) (command : Command) (p : IsChosen c (chosen.Request place)) → needed (issued_commands p.past.channel p.past.steps) (request_at c.queue.log place) ≡ command → IsDoing c place command
+pub doing : (c : Channel) (place : ℕ) (command : Command) (p : IsChosen c (Needs.Request place)) → needed (issued_commands p.past.channel p.past.steps) (request_at c.queue.log place) ≡ command → IsDoing c place command
 doing c place command p e = record {
   past = p.past;
   is_in = p.is_in;

@@ -44,7 +44,7 @@ renewed-stands c past bank_candidates h count stands =
         past = h.recalls.past;
         queue_is = same ∙ h.recalls.queue_is;
         drained_is = h.recalls.drained_is;
-        marks_are = ap (map (λ (a : Arrived). a.activated)) (waiting_twice c.queue.log) ∙ h.recalls.marks_are ∙ ap (activated_of history) (sym same);
+        activated_are = ap (map (λ (a : Arrived). a.activated)) (waiting_twice c.queue.log) ∙ h.recalls.activated_are ∙ ap (activated_of history) (sym same);
         stats_are = h.recalls.stats_are;
       };
       candidates_stand = stands;

@@ -18,16 +18,16 @@ use Rattle.sim_base.specs.declared.command.IssuedCommand.{IssuedCommand}
 use Rattle.sim_base.specs.declared.message.Message.{Message}
 use Rattle.sim_base.specs.declared.message.Request.{Request}
 use Rattle.sim_base.proofs.Lists.{filter-both, filter-each, filter-agree}
-use Rattle.channel_step.specs.Past.{requests_of, IsRequestOf, IsRequestIn, CarriesRequest, IsOther, Differ}
-use Rattle.channel_step.specs.Fit.{is_named_by, IsUnnamed}
+use Rattle.channel_step.specs.Past.{carried_requests, IsRequestOf, IsRequestIn, CarriesRequest, IsOther, Differ}
+use Rattle.channel_step.specs.Fit.{is_issued_for, NoneIssuedFor}
 
 -- what holds of each request that messages carry
 pub carried : (s : Config) (channel : ℕ) (P : Request → Type 0) (mail : List Message) → Each (CarriesRequest s channel) mail
-    → Each (λ (m : Message). (r : Request) → IsRequestOf s channel m r → P r) mail → Each P (requests_of mail)
+    → Each (λ (m : Message). (r : Request) → IsRequestOf s channel m r → P r) mail → Each P (carried_requests mail)
 carried s channel P [] h k = tt
 carried s channel P (m ∷ ms) h k = by (request_in m.payload) h.0 (carried s channel P ms h.1 k.1)
   where
-    by : (o : Option Request) → IsRequestIn s channel m o → Each P (requests_of ms) → Each P (cons_option o (requests_of ms))
+    by : (o : Option Request) → IsRequestIn s channel m o → Each P (carried_requests ms) → Each P (cons_option o (carried_requests ms))
     by None i rest = absurd i
     by (Some r) i rest = (k.0 r i, rest)
 
@@ -36,7 +36,7 @@ abbrev pub ArrivedBefore : ℕ → Request → Type 0
 ArrivedBefore until r = r.arrival < until
 
 pub requests-arrived : (s : Config) (channel until : ℕ) (mail : List Message) → Each (CarriesRequest s channel) mail → Each (λ (m : Message). m.arrival < until) mail
-    → Each (ArrivedBefore until) (requests_of mail)
+    → Each (ArrivedBefore until) (carried_requests mail)
 requests-arrived s channel until mail h k =
     carried s channel (ArrivedBefore until) mail h (Each-weaker (λ (m : Message). m.arrival < until) _ (λ m l r i. let e = i.arrival in omega arith) mail k)
 
@@ -53,24 +53,24 @@ abbrev pub unserved : List IssuedCommand → List Request → List Request
 unserved history rs = filter (λ r. not (is_served history r)) rs
 
 -- where all requests have arrived, those wait that were not served
-pub queued_requests-unserved : (history : List IssuedCommand) (mail : List Message) (until : ℕ) → Each (ArrivedBefore until) (requests_of mail)
-    → queued_requests history mail until ≡ unserved history (requests_of mail)
+pub queued_requests-unserved : (history : List IssuedCommand) (mail : List Message) (until : ℕ) → Each (ArrivedBefore until) (carried_requests mail)
+    → queued_requests history mail until ≡ unserved history (carried_requests mail)
 unfolding queued_requests
 queued_requests-unserved history mail until h =
-    filter-agree (is_queued history until) (λ r. not (is_served history r)) (requests_of mail)
-    (Each-weaker (ArrivedBefore until) _ (λ r l. ap (λ b. b && not (is_served history r)) (lt-ltb r.arrival until l)) (requests_of mail) h)
+    filter-agree (is_queued history until) (λ r. not (is_served history r)) (carried_requests mail)
+    (Each-weaker (ArrivedBefore until) _ (λ r l. ap (λ b. b && not (is_served history r)) (lt-ltb r.arrival until l)) (carried_requests mail) h)
 
 -- no time has to pass for what has arrived
-pub queued_requests-until : (history : List IssuedCommand) (mail : List Message) (until later : ℕ) → until ≤ later → Each (ArrivedBefore until) (requests_of mail)
+pub queued_requests-until : (history : List IssuedCommand) (mail : List Message) (until later : ℕ) → until ≤ later → Each (ArrivedBefore until) (carried_requests mail)
     → queued_requests history mail later ≡ queued_requests history mail until
 queued_requests-until history mail until later l h =
-    queued_requests-unserved history mail later (Each-weaker (ArrivedBefore until) (ArrivedBefore later) (λ r k. omega arith) (requests_of mail) h)
+    queued_requests-unserved history mail later (Each-weaker (ArrivedBefore until) (ArrivedBefore later) (λ r k. omega arith) (carried_requests mail) h)
     ∙ sym (queued_requests-unserved history mail until h)
 
-pub requests-append : (mail more : List Message) → requests_of (mail ++ more) ≡ requests_of mail ++ requests_of more
+pub requests-append : (mail more : List Message) → carried_requests (mail ++ more) ≡ carried_requests mail ++ carried_requests more
 requests-append mail more = filter_map-append (λ (m : Message). request_in m.payload) mail more
 
-serves-named : (r : Request) (command : Command) → is_named_by command r ≡ false → serves r command ≡ false
+serves-named : (r : Request) (command : Command) → is_issued_for command r ≡ false → serves r command ≡ false
 serves-named r (Rd bank row column source) h = h
 serves-named r (Wr bank row column source) h = h
 serves-named r (Act bank row source) h = refl
@@ -79,25 +79,25 @@ serves-named r (Prea rank) h = refl
 serves-named r (Ref rank) h = refl
 
 -- what no command names is not served
-pub unnamed-unserved : (history : List IssuedCommand) (r : Request) → IsUnnamed history r → is_served history r ≡ false
+pub none_issued-unserved : (history : List IssuedCommand) (r : Request) → NoneIssuedFor history r → is_served history r ≡ false
 unfolding is_served
-unnamed-unserved [] r h = refl
-unnamed-unserved (i ∷ history) r h = ap₂ (λ a b. a || b) (serves-named r i.command h.0) (unnamed-unserved history r h.1)
+none_issued-unserved [] r h = refl
+none_issued-unserved (i ∷ history) r h = ap₂ (λ a b. a || b) (serves-named r i.command h.0) (none_issued-unserved history r h.1)
 
 -- the queue with the requests that arrive in a cycle, which no command has named yet
-pub queued_requests-arrivals : (history : List IssuedCommand) (mail new : List Message) (now : ℕ) → Each (ArrivedBefore now) (requests_of mail)
-    → Each (ArrivedBefore (now + 1)) (requests_of new) → Each (IsUnnamed history) (requests_of new)
-    → queued_requests history (mail ++ new) (now + 1) ≡ queued_requests history mail now ++ requests_of new
+pub queued_requests-arrivals : (history : List IssuedCommand) (mail new : List Message) (now : ℕ) → Each (ArrivedBefore now) (carried_requests mail)
+    → Each (ArrivedBefore (now + 1)) (carried_requests new) → Each (NoneIssuedFor history) (carried_requests new)
+    → queued_requests history (mail ++ new) (now + 1) ≡ queued_requests history mail now ++ carried_requests new
 queued_requests-arrivals history mail new now h k u =
     queued_requests-unserved history (mail ++ new) (now + 1)
     (subst (Each (ArrivedBefore (now + 1))) (sym (requests-append mail new))
-    (Each-append (ArrivedBefore (now + 1)) (requests_of mail) (requests_of new)
-    (Each-weaker (ArrivedBefore now) (ArrivedBefore (now + 1)) (λ r l. omega arith) (requests_of mail) h) k))
+    (Each-append (ArrivedBefore (now + 1)) (carried_requests mail) (carried_requests new)
+    (Each-weaker (ArrivedBefore now) (ArrivedBefore (now + 1)) (λ r l. omega arith) (carried_requests mail) h) k))
     ∙ ap (unserved history) (requests-append mail new)
-    ∙ filter-append (λ r. not (is_served history r)) (requests_of mail) (requests_of new)
+    ∙ filter-append (λ r. not (is_served history r)) (carried_requests mail) (carried_requests new)
     ∙ ap₂ (λ xs ys. xs ++ ys) (sym (queued_requests-unserved history mail now h))
-    (filter-each (λ r. not (is_served history r)) (requests_of new)
-    (Each-weaker (IsUnnamed history) _ (λ r i. ap not (unnamed-unserved history r i)) (requests_of new) u))
+    (filter-each (λ r. not (is_served history r)) (carried_requests new)
+    (Each-weaker (NoneIssuedFor history) _ (λ r i. ap not (none_issued-unserved history r i)) (carried_requests new) u))
 
 -- a command more, which may be the column command of a request
 abbrev pub unserved_by : Command → List Request → List Request
@@ -116,7 +116,7 @@ unfolding queued_requests is_served
 queued_requests-command history i mail until =
     filter-both (λ r. not (serves r i.command)) (is_queued history until) (is_queued (history ++ i ∷ []) until)
     (λ r. ap (λ b. ltb r.arrival until && not b) (list_any-append (λ (j : IssuedCommand). serves r j.command) history (i ∷ [])) ∙ one_more (ltb r.arrival until) (is_served history r) (serves r i.command))
-    (requests_of mail)
+    (carried_requests mail)
 
 pub same_source : (a b : Request) → is_source a (source_of b) ≡ false → is_source b (source_of a) ≡ false
 same_source a b h = grind (arith, nat_tests)

@@ -22,7 +22,7 @@ use Rattle.statistics.specs.Channels.{is_late_act}
 use Rattle.statistics.proofs.ChannelCounts.{opens_for, is_hit-push, opens_for-itself, not_late}
 use Rattle.request_table.specs.Served.{served_by, served_in, served_requests}
 use Rattle.request_table.specs.declared.served_requests.ServedRequest.{ServedRequest}
-use Rattle.channel_step.specs.Past.{requests_of}
+use Rattle.channel_step.specs.Past.{carried_requests}
 use Rattle.channel_step.specs.Queued.{served_now, kept_rows}
 use Rattle.channel_step.specs.Runs.{with_more}
 use Rattle.channel_step.specs.Channels.{KeepsServed}
@@ -82,12 +82,12 @@ kept-none (Some rows) mail h = λ arrivals each. h rows refl
 pub kept-later : (kept : Option (Vec ServedRequest Global)) (history : List IssuedCommand) (mail new : List Message) → KeepsServed kept history mail → KeepsServed kept history (mail ++ new)
 kept-later None history mail new h = tt
 kept-later (Some rows) history mail new h = λ arrivals each.
-    h arrivals (Each-first (TellsOf arrivals) (requests_of mail) (requests_of new) (subst (Each (TellsOf arrivals)) (filter_map-append (λ (m : Message). request_in m.payload) mail new) each))
+    h arrivals (Each-first (TellsOf arrivals) (carried_requests mail) (carried_requests new) (subst (Each (TellsOf arrivals)) (filter_map-append (λ (m : Message). request_in m.payload) mail new) each))
 
 -- rows are added
 kept-more : (kept then : Option (Vec ServedRequest Global)) (history : List IssuedCommand) (i : IssuedCommand) (new : List ServedRequest) (mail : List Message)
     → kept_rows then ≡ with_more (kept_rows kept) new
-    → ((arrivals : Source → ℕ) → Each (TellsOf arrivals) (requests_of mail) → served_requests arrivals (history ++ i ∷ []) ≡ served_requests arrivals history ++ new)
+    → ((arrivals : Source → ℕ) → Each (TellsOf arrivals) (carried_requests mail) → served_requests arrivals (history ++ i ∷ []) ≡ served_requests arrivals history ++ new)
     → KeepsServed kept history mail → KeepsServed then (history ++ i ∷ []) mail
 kept-more kept None history i new mail e more h = tt
 kept-more None (Some rows) history i new mail e more h = absurd (cc)
@@ -117,5 +117,5 @@ kept-served kept then history i r hit mail until is late waits e more h =
     served_requests-push arrivals history i late
     ∙ ap₂ (λ b command. served_requests arrivals history ++ cons_option (served_by arrivals b i.channel i.cycle command) []) e is
     ∙ ap (λ o. served_requests arrivals history ++ cons_option o [])
-    (served-one arrivals hit i.channel i.cycle r (waits (TellsOf arrivals) (Each-filter (TellsOf arrivals) (is_queued history until) (requests_of mail) each))))
+    (served-one arrivals hit i.channel i.cycle r (waits (TellsOf arrivals) (Each-filter (TellsOf arrivals) (is_queued history until) (carried_requests mail) each))))
     h

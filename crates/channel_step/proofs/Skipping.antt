@@ -18,7 +18,7 @@ use Rattle.statistics.proofs.ChannelStretches.{channel_joined-assoc, channel_joi
 use Rattle.bank_ready.specs.Stands.{StandsFor as BanksStandFor}
 use Rattle.bank_ready.specs.Refreshes.{RefreshCounts, lowest_owed, StandsFor as RefreshesStandFor}
 use Rattle.bank_ready.proofs.Due.{lowest_due_from_owed}
-use Rattle.channel_step.specs.Past.{requests_of, past_of, Past, commands_after}
+use Rattle.channel_step.specs.Past.{carried_requests, past_of, Past, commands_after}
 use Rattle.channel_step.specs.Stands.{activated_of}
 use Rattle.channel_step.specs.Counted.{cycle_with_hit}
 use Rattle.channel_step.specs.Queued.{drain_decided}
@@ -39,7 +39,7 @@ pub drain_decided-in_cycle : (c : Channel) (past : Past) → HasPast c past
     → IsInCycle (record c { queue = drain_decided c.queue }) past
 drain_decided-in_cycle c past h =
     let r = h.recalls in
-    let before : Each (ArrivedBefore (length past.steps)) (requests_of past.mail) = requests-arrived past.config past.channel (length past.steps) past.mail r.past.requests r.past.arrived in
+    let before : Each (ArrivedBefore (length past.steps)) (carried_requests past.mail) = requests-arrived past.config past.channel (length past.steps) past.mail r.past.requests r.past.arrived in
     record {
       made_for = record {
         config_is = h.made_for.config_is;
@@ -60,7 +60,7 @@ drain_decided-in_cycle c past h =
         differ = r.past.differ;
         queue_is = r.queue_is ∙ sym (queued_requests-until (commands_after past) past.mail (length past.steps) (length past.steps + 1) (omega arith) before);
         drained_is = at-drains c past h;
-        marks_are = r.marks_are;
+        activated_are = r.activated_are;
         stats_are = r.stats_are;
       };
       candidates_stand = h.candidates_stand;
@@ -92,7 +92,7 @@ abbrev pub IsDueThroughout : Config → ℕ → List (Option Command) → ℕ �
 IsDueThroughout s channel steps n due = (k : ℕ) → k < n → is_some (lowest_due s (issued_commands channel steps) (length steps + k)) ≡ due
 
 -- what each of them counts
-idle-counts : (s : Config) (channel : ℕ) (steps : List (Option Command)) (mail : List Message) (n : ℕ) (due : Bool) → Each (ArrivedBefore (length steps + 1)) (requests_of mail)
+idle-counts : (s : Config) (channel : ℕ) (steps : List (Option Command)) (mail : List Message) (n : ℕ) (due : Bool) → Each (ArrivedBefore (length steps + 1)) (carried_requests mail)
     → IsDueThroughout s channel steps n due → (k : ℕ) → k < n
     → channel_cycle s channel (steps ++ replicate k None) mail None
     ≡ cycle_with_hit s (length (queued_requests (issued_commands channel steps) mail (length steps + 1))) due (drains s channel steps mail (length steps)) None false
@@ -105,7 +105,7 @@ idle-counts s channel steps mail n due h alike k l =
     ∙ ap (λ b. cycle_with_hit s (length (queued_requests history mail (length steps + 1))) b (drains s channel steps mail (length steps)) None false) first
 
 -- the statistics after them
-pub idle-stats : (s : Config) (channel : ℕ) (steps : List (Option Command)) (mail : List Message) (n : ℕ) (due : Bool) → Each (ArrivedBefore (length steps + 1)) (requests_of mail)
+pub idle-stats : (s : Config) (channel : ℕ) (steps : List (Option Command)) (mail : List Message) (n : ℕ) (due : Bool) → Each (ArrivedBefore (length steps + 1)) (carried_requests mail)
     → IsDueThroughout s channel steps n due
     → channel_stats s channel (steps ++ replicate n None) mail
     ≡ channel_joined (channel_stats s channel steps mail)
@@ -119,7 +119,7 @@ abbrev pub skipped_by : Channel → Config → ℕ → Bool → ChannelStats
 skipped_by c s n due = channel_joined c.stats (channel_times n (cycle_with_hit s (length (waiting_requests c.queue.log)) due c.queue.drain_decided None false))
 
 skipped-stats : (c : Channel) (past : Past) (n : ℕ) (due : Bool) → IsInCycle c past
-    → Each (ArrivedBefore (length past.steps + 1)) (requests_of past.mail) → IsDueThroughout past.config past.channel past.steps n due → skipped_by c past.config n due ≡ channel_stats past.config past.channel (past.steps ++ replicate n None) past.mail
+    → Each (ArrivedBefore (length past.steps + 1)) (carried_requests past.mail) → IsDueThroughout past.config past.channel past.steps n due → skipped_by c past.config n due ≡ channel_stats past.config past.channel (past.steps ++ replicate n None) past.mail
 skipped-stats c past n due h before alike =
     let j = h.joined in
     ap₂ (λ q d. channel_joined c.stats (channel_times n (cycle_with_hit past.config (length q) due d None false))) j.queue_is j.drained_is
@@ -136,7 +136,7 @@ skipped-longest c past n due h = times-longest c.stats.queued_max (length (waiti
 
 -- the statistics after them fit
 pub skipped-fits : (c : Channel) (past : Past) (n : ℕ) (due : Bool) → IsInCycle c past
-    → Each (ArrivedBefore (length past.steps + 1)) (requests_of past.mail) → IsDueThroughout past.config past.channel past.steps n due → length past.steps + n ≤ 2 ^ 62 → ChannelFits (skipped_by c past.config n due)
+    → Each (ArrivedBefore (length past.steps + 1)) (carried_requests past.mail) → IsDueThroughout past.config past.channel past.steps n due → length past.steps + n ≤ 2 ^ 62 → ChannelFits (skipped_by c past.config n due)
 unfolding channel_stats
 skipped-fits c past n due h before alike early =
     let more = past.steps ++ replicate n None in
@@ -148,7 +148,7 @@ skipped-fits c past n due h before alike early =
 
 -- after them the channel is in a cycle that is as the first
 pub skipped-in_cycle : (c : Channel) (past : Past) (n : ℕ) (due : Bool) (until : ℕ) → IsInCycle c past
-    → Each (ArrivedBefore (length past.steps + 1)) (requests_of past.mail) → IsDueThroughout past.config past.channel past.steps n due → until ≡ length past.steps + n
+    → Each (ArrivedBefore (length past.steps + 1)) (carried_requests past.mail) → IsDueThroughout past.config past.channel past.steps n due → until ≡ length past.steps + n
     → IsInCycle (record c { cycle = until; stats = skipped_by c past.config n due }) (past_of past.config past.channel (past.steps ++ replicate n None) past.mail)
 skipped-in_cycle c past n due until h before alike e =
     let more = past.steps ++ replicate n None in
@@ -177,7 +177,7 @@ skipped-in_cycle c past n due until h before alike e =
             j.queue_is
             ∙ sym (idle-queued_requests past.channel past.steps past.mail before n (length more + 1) (omega arith));
         drained_is = j.drained_is ∙ sym (idle-drains past.config past.channel past.steps past.mail before n);
-        marks_are = j.marks_are ∙ ap (λ x. activated_of x (waiting_requests c.queue.log)) (sym history);
+        activated_are = j.activated_are ∙ ap (λ x. activated_of x (waiting_requests c.queue.log)) (sym history);
         stats_are = skipped-stats c past n due h before alike;
       };
       candidates_stand = subst (CandidatesStand c.bank_candidates c.queue.log) (sym history) h.candidates_stand;
@@ -191,7 +191,7 @@ skipped-in_cycle c past n due until h before alike e =
 
 -- where at least one cycle was skipped, it stands after them
 skipped-stands : (c : Channel) (s : Config) (channel : ℕ) (steps : List (Option Command)) (mail : List Message) (n : ℕ) → IsInCycle c (past_of s channel (steps ++ replicate n None) mail)
-    → Each (λ (m : Message). m.arrival < length steps + 1) mail → Each (ArrivedBefore (length steps + 1)) (requests_of mail) → 0 < n → StandsFor c s channel (steps ++ replicate n None) mail
+    → Each (λ (m : Message). m.arrival < length steps + 1) mail → Each (ArrivedBefore (length steps + 1)) (carried_requests mail) → 0 < n → StandsFor c s channel (steps ++ replicate n None) mail
 skipped-stands c s channel steps mail zero h arrived before some = absurd (omega arith)
 skipped-stands c s channel steps mail (suc k) h arrived before some =
     let last = steps ++ replicate k None in
@@ -215,7 +215,7 @@ skipped-stands c s channel steps mail (suc k) h arrived before some =
             ∙ idle-queued_requests channel steps mail before (suc k) (length more + 1) (omega arith)
             ∙ sym (idle-queued_requests channel steps mail before (suc k) (length more) (omega arith));
         drained_is = j.drained_is ∙ drained;
-        marks_are = j.marks_are;
+        activated_are = j.activated_are;
         stats_are = j.stats_are;
       };
       candidates_stand = h.candidates_stand;
@@ -248,14 +248,14 @@ skipped-is c past until h =
     h.made_for.config_is (drain_decided-drains c past h)
 
 skip-fits : (c : Channel) (past : Past) (until : ℕ) → IsInCycle c past
-    → Each (ArrivedBefore (length past.steps + 1)) (requests_of past.mail) → IsDueThroughout past.config past.channel past.steps (until - c.cycle) (is_some (lowest_owed c.refresh c.cycle)) → c.cycle ≤ until → until ≤ 2 ^ 62
+    → Each (ArrivedBefore (length past.steps + 1)) (carried_requests past.mail) → IsDueThroughout past.config past.channel past.steps (until - c.cycle) (is_some (lowest_owed c.refresh c.cycle)) → c.cycle ≤ until → until ≤ 2 ^ 62
     → ChannelFits (skipped c until)
 skip-fits c past until h before due l early =
     subst ChannelFits (sym (skipped-is c past until h))
     (skipped-fits c past (until - c.cycle) _ h before due (omega (arith, h.cycle_is)))
 
 skip-in_cycle : (c : Channel) (past : Past) (until : ℕ) → IsInCycle c past
-    → Each (ArrivedBefore (length past.steps + 1)) (requests_of past.mail) → IsDueThroughout past.config past.channel past.steps (until - c.cycle) (is_some (lowest_owed c.refresh c.cycle)) → c.cycle ≤ until
+    → Each (ArrivedBefore (length past.steps + 1)) (carried_requests past.mail) → IsDueThroughout past.config past.channel past.steps (until - c.cycle) (is_some (lowest_owed c.refresh c.cycle)) → c.cycle ≤ until
     → IsInCycle (record c { cycle = until; stats = skipped c until }) (idle_after past c.cycle until)
 skip-in_cycle c past until h before due l =
     subst (λ x. IsInCycle (record c { cycle = until; stats = x }) (idle_after past c.cycle until)) (sym (skipped-is c past until h))
@@ -274,7 +274,7 @@ pub record Skips (c : Channel) (past : Past) (until due : ℕ) : Type 0 where
   pub dues : IsDueIn c.refresh c.cycle until due
 
 -- all requests are there from the first of them on
-pub there-before : (c : Channel) (past : Past) → IsInCycle c past → Each (ArrivedBefore (length past.steps + 1)) (requests_of past.mail)
+pub there-before : (c : Channel) (past : Past) → IsInCycle c past → Each (ArrivedBefore (length past.steps + 1)) (carried_requests past.mail)
 there-before c past h = requests-arrived past.config past.channel (length past.steps + 1) past.mail h.joined.requests h.joined.arrived
 
 skips-alike : (c : Channel) (past : Past) (until due : ℕ) → Skips c past until due

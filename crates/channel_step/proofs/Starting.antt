@@ -21,18 +21,18 @@ use Rattle.queue.specs.Log.{waiting, waiting_requests, all_requests}
 use Rattle.queue.specs.Columns.{write_count}
 use Rattle.queue.specs.View.{QueueView, places_for, is_draining, drains_by}
 use Rattle.channel_step.specs.FrFcfs.Requests.{IsInBanks}
-use Rattle.channel_step.specs.FrFcfs.Choices.{StandFor, choice_in}
+use Rattle.channel_step.specs.FrFcfs.Choices.{choice_in}
 use Rattle.channel_step.specs.FrFcfs.Cycles.{IsFirstCycle}
-use Rattle.channel_step.specs.Past.{requests_of, past_of, Past, commands_after}
+use Rattle.channel_step.specs.Past.{carried_requests, past_of, Past, commands_after}
 use Rattle.channel_step.specs.Stands.{Recalls}
-use Rattle.channel_step.specs.Channels.{IsForeseen, KeepsServed, StandsFor, HasPast}
+use Rattle.channel_step.specs.Channels.{IsForeseen, KeepsServed, StandsFor, HasPast, PartsStand}
 use Rattle.channel_step.specs.Runs.{StandsAt}
 use Rattle.channel_step.specs.declared.next_command.NextCommand.TheVariants.{Unknown}
 use Rattle.channel_step.specs.declared.channel.Channel.{Channel}
 use Rattle.channel_step.proofs.Requests.{ArrivedBefore, requests-arrived, queued_requests-until}
 use Rattle.channel_step.proofs.Spans.{drains-next}
 use Rattle.channel_step.proofs.Stretches.{idle-choice}
-use Rattle.channel_step.proofs.Deciding.{made-in_banks}
+use Rattle.channel_step.proofs.Deciding.{made-in_banks, parts-stand}
 use Rattle.channel_step.proofs.Foreseen.{foreseen-unknown}
 use Rattle.channel_step.proofs.Serving.{kept-none}
 use Rattle.request_table.specs.declared.served_requests.ServedRequest.{ServedRequest}
@@ -44,30 +44,22 @@ recalls-none s channel = record {
   past = record { requests = tt; arrived = tt; differ = tt };
   queue_is = refl;
   drained_is = refl;
-  marks_are = refl;
+  activated_are = refl;
   stats_are = sym (channel_stats-none s channel []);
 }
 
 pub at-in_banks : (c : Channel) (from : ℕ) → StandsAt c from → All (IsInBanks (rank_count c.banks)) (all_requests c.queue.log)
 at-in_banks c from h = made-in_banks c h.s h.channel (rank_count c.banks) h.stands.made_for h.stands.banks_stand.ranks
 
-pub at-stand : (c : Channel) (past : Past) → HasPast c past
-    → StandFor c.bank_candidates c.banks c.refresh c.queue c.config.groups past.config (commands_after past)
-at-stand c past h =
-    record {
-      candidates_stand = h.candidates_stand;
-      banks_stand = h.banks_stand;
-      refreshes_stand = h.refreshes_stand;
-      groups_are = ap (λ (x : Config). x.groups) (sym h.made_for.config_is);
-      high_is = sym h.made_for.high_is;
-    }
+pub at-stand : (c : Channel) (past : Past) → HasPast c past → PartsStand c past.config (commands_after past)
+at-stand c past h = parts-stand c past.config past.channel (commands_after past) h.made_for h.banks_stand h.candidates_stand h.refreshes_stand
 
 -- whether the channel would drain its writes in the next cycle
 pub at-drains : (c : Channel) (past : Past) → HasPast c past
     → is_draining c.queue ≡ drains past.config past.channel past.steps past.mail (length past.steps)
 at-drains c past h =
     let r = h.recalls in
-    let before : Each (ArrivedBefore (length past.steps)) (requests_of past.mail) = requests-arrived past.config past.channel (length past.steps) past.mail r.past.requests r.past.arrived in
+    let before : Each (ArrivedBefore (length past.steps)) (carried_requests past.mail) = requests-arrived past.config past.channel (length past.steps) past.mail r.past.requests r.past.arrived in
     ap₂ (λ high low. drains_by high low c.queue.drain_decided (write_count (waiting_requests c.queue.log))) h.made_for.high_is h.made_for.low_is
     ∙ ap₂ (λ d q. drains_with past.config d (write_count q)) r.drained_is
     (r.queue_is ∙ sym (queued_requests-until (commands_after past) past.mail (length past.steps) (length past.steps + 1) (omega arith) before))
@@ -79,9 +71,9 @@ at-choice : (c : Channel) (past : Past) (from cycle : ℕ) → HasPast c past �
 at-choice c past from cycle h at l =
     let r = h.recalls in
     let history = commands_after past in
-    let before : Each (ArrivedBefore (length past.steps)) (requests_of past.mail) = requests-arrived past.config past.channel (length past.steps) past.mail r.past.requests r.past.arrived in
-    let soon : Each (ArrivedBefore (length past.steps + 1)) (requests_of past.mail) =
-    Each-weaker (ArrivedBefore (length past.steps)) (ArrivedBefore (length past.steps + 1)) (λ r l. omega arith) (requests_of past.mail) before in
+    let before : Each (ArrivedBefore (length past.steps)) (carried_requests past.mail) = requests-arrived past.config past.channel (length past.steps) past.mail r.past.requests r.past.arrived in
+    let soon : Each (ArrivedBefore (length past.steps + 1)) (carried_requests past.mail) =
+    Each-weaker (ArrivedBefore (length past.steps)) (ArrivedBefore (length past.steps + 1)) (λ r l. omega arith) (carried_requests past.mail) before in
     let there : waiting_requests c.queue.log ≡ queued_requests history past.mail (length past.steps + 1) = r.queue_is ∙ sym (queued_requests-until history past.mail (length past.steps) (length past.steps + 1) (omega arith) before) in
     let then : cycle ≡ length past.steps + (cycle - from) = omega arith in
     ap (λ t. choice_between past.config history t (candidates past.config (is_draining c.queue) (waiting_requests c.queue.log)) (lowest_due past.config history t)) then

@@ -24,7 +24,7 @@ use Rattle.queue.specs.Columns.{bank_number, write_count}
 use Rattle.queue.specs.View.{QueueView, drains_by}
 use Rattle.queue.specs.declared.bank_candidates.all_banks.BankCandidates.{BankCandidates}
 use Rattle.queue.specs.Stands.{bank_count}
-use Rattle.channel_step.specs.Past.{requests_of, IsRequestIn, CarriesRequest, Past, commands_after, with_mail}
+use Rattle.channel_step.specs.Past.{carried_requests, IsRequestIn, CarriesRequest, Past, commands_after, with_mail}
 use Rattle.channel_step.specs.Fit.{IsFitAfter}
 use Rattle.channel_step.specs.Stands.{activated_of}
 use Rattle.channel_step.specs.Queued.{activated_in, with_arrivals}
@@ -47,17 +47,17 @@ pub due_count-is : (inbox : List Message) (now : ℕ) → length (take_while (λ
 due_count-is inbox now = length-prefix_len (λ (m : Message). eqb m.arrival now) inbox
 
 -- each message has its request
-pub length-requests : (s : Config) (channel : ℕ) (mail : List Message) → Each (CarriesRequest s channel) mail → length (requests_of mail) ≡ length mail
+pub length-requests : (s : Config) (channel : ℕ) (mail : List Message) → Each (CarriesRequest s channel) mail → length (carried_requests mail) ≡ length mail
 length-requests s channel [] h = refl
 length-requests s channel (m ∷ ms) h = by (request_in m.payload) h.0 (length-requests s channel ms h.1)
   where
-    by : (o : Option Request) → IsRequestIn s channel m o → length (requests_of ms) ≡ length ms → length (cons_option o (requests_of ms)) ≡ suc (length ms)
+    by : (o : Option Request) → IsRequestIn s channel m o → length (carried_requests ms) ≡ length ms → length (cons_option o (carried_requests ms)) ≡ suc (length ms)
     by None i e = absurd i
     by (Some r) i e = ap (λ n. suc n) e
 
 -- the queue of a cycle has room for what arrives in it
 pub arrivals-room : (c : Channel) (past : Past) (inbox : List Message) (now until : ℕ) → HasPast c past → length past.steps ≡ now → now < until
-    → IsFitAfter past inbox now until → length (waiting_requests c.queue.log ++ requests_of (take (due_count inbox now) inbox)) ≤ queue_room past.config
+    → IsFitAfter past inbox now until → length (waiting_requests c.queue.log ++ carried_requests (take (due_count inbox now) inbox)) ≤ queue_room past.config
 unfolding queue_length channel_run
 arrivals-room c past inbox now until h at l f =
     let new = take (due_count inbox now) inbox in
@@ -66,7 +66,7 @@ arrivals-room c past inbox now until h at l f =
     let later = fit-later past inbox now until at f in
     let whole : past.mail ++ inbox ≡ (past.mail ++ new) ++ rest = ap (λ x. past.mail ++ x) (sym (take-append-drop (due_count inbox now) inbox)) ∙ sym (append_assoc past.mail new rest) in
     let fits = f.room 0 (omega arith) in
-    let is : queue_length past.channel past.steps (past.mail ++ inbox) (now + 0) ≡ length (waiting_requests c.queue.log ++ requests_of new) =
+    let is : queue_length past.channel past.steps (past.mail ++ inbox) (now + 0) ≡ length (waiting_requests c.queue.log ++ carried_requests new) =
     ap₂ (λ m k. queue_length past.channel past.steps m k) whole (add-zero now ∙ sym at)
     ∙ ap length (queue-same past.channel past.steps ((past.mail ++ new) ++ rest) (past.mail ++ new) (length past.steps)
     (AgreeUpTo-later (length past.steps + 1) (past.mail ++ new) rest (carries-stamped past.config past.channel (past.mail ++ new) j.requests) (carries-stamped past.config past.channel rest later.0) later.1)
@@ -75,12 +75,12 @@ arrivals-room c past inbox now until h at l f =
 
 -- the requests that arrive in a cycle
 abbrev pub arriving : List Message → ℕ → List Request
-arriving inbox now = requests_of (take (due_count inbox now) inbox)
+arriving inbox now = carried_requests (take (due_count inbox now) inbox)
 
-arriving-in_banks : (s : Config) (channel : ℕ) (new : List Message) → Each (CarriesRequest s channel) new → All (IsInBanks s.ranks) (requests_of new)
+arriving-in_banks : (s : Config) (channel : ℕ) (new : List Message) → Each (CarriesRequest s channel) new → All (IsInBanks s.ranks) (carried_requests new)
 arriving-in_banks s channel new h =
-    All-from_recursion (IsInBanks s.ranks) (requests_of new)
-    (Each-weaker (InBanks s) (IsInBanks s.ranks) (λ r b. record { rank = b.0; group = b.1; bank = b.2 }) (requests_of new)
+    All-from_recursion (IsInBanks s.ranks) (carried_requests new)
+    (Each-weaker (InBanks s) (IsInBanks s.ranks) (λ r b. record { rank = b.0; group = b.1; bank = b.2 }) (carried_requests new)
     (carried s channel (InBanks s) new h (Each-all _ (λ m r i. request-in_banks s channel m r i) new)))
 
 -- all that have arrived then ask for banks that there are
@@ -136,7 +136,7 @@ arrived-stands c past inbox now until q bank_candidates next_command h at l f e 
         differ = j.differ;
         queue_is = wait ∙ j.queue_is;
         drained_is = drains ∙ j.drained_is;
-        marks_are = ap (λ (x : QueueView). activated_in x.log) e ∙ marks-with c.queue.log requests ∙ j.marks_are ∙ ap (activated_of history) (sym wait);
+        activated_are = ap (λ (x : QueueView). activated_in x.log) e ∙ marks-with c.queue.log requests ∙ j.activated_are ∙ ap (activated_of history) (sym wait);
         stats_are = j.stats_are;
       };
       candidates_stand = candidates_stand;
@@ -151,10 +151,10 @@ pub admit-room : (c : Channel) (past : Past) (inbox : List Message) (now until n
     → IsFitAfter past inbox now until → n ≡ due_count inbox now → length (waiting_requests c.queue.log) + n ≤ c.queue.room
 admit-room c past inbox now until n h at l f e =
     let new = take (due_count inbox now) inbox in
-    let each : length (requests_of new) ≡ length new = length-requests past.config past.channel new (fit-arrives past inbox now until at f).requests in
+    let each : length (carried_requests new) ≡ length new = length-requests past.config past.channel new (fit-arrives past inbox now until at f).requests in
     let room : c.queue.room ≡ queue_room past.config = h.made_for.room_is in
     let many : length new ≡ due_count inbox now = length-prefix_len (λ (m : Message). eqb m.arrival now) inbox in
-    omega (arith, arrivals-room c past inbox now until h at l f, length-append (waiting_requests c.queue.log) (requests_of new))
+    omega (arith, arrivals-room c past inbox now until h at l f, length-append (waiting_requests c.queue.log) (carried_requests new))
 
 -- the requests that were there before
 pub log-before : (c : Channel) (new : List Request) (n : ℕ) (q : QueueView) → n ≡ length c.queue.log → q ≡ with_arrivals c.queue new → c.queue.log ≡ take n q.log

@@ -17,7 +17,7 @@ use Rattle.statistics.proofs.ChannelCounts.{issued_commands-push}
 use Rattle.statistics.specs.Channels.{channel_cycle_with, channel_cycle}
 use Rattle.channel_step.proofs.Requests.{ArrivedBefore, queued_requests-until}
 use Rattle.channel_step.proofs.Spans.{queue-next, drains-next, drains_before-row, choice-next}
-use Rattle.channel_step.specs.Past.{requests_of}
+use Rattle.channel_step.specs.Past.{carried_requests}
 use Rattle.channel_step.specs.Fit.{IsIdle}
 use Rattle.channel_step.proofs.Cycle.{has_due-next}
 
@@ -49,7 +49,7 @@ idle-messages s channel steps (suc n) =
     ∙ idle-messages s channel steps n
 
 -- in each cycle in which the channel issues nothing the same requests wait, since all have arrived
-pub idle-queued_requests : (channel : ℕ) (steps : List (Option Command)) (mail : List Message) → Each (ArrivedBefore (length steps + 1)) (requests_of mail) → (n later : ℕ) → length steps + 1 ≤ later
+pub idle-queued_requests : (channel : ℕ) (steps : List (Option Command)) (mail : List Message) → Each (ArrivedBefore (length steps + 1)) (carried_requests mail) → (n later : ℕ) → length steps + 1 ≤ later
     → queued_requests (issued_commands channel (steps ++ replicate n None)) mail later ≡ queued_requests (issued_commands channel steps) mail (length steps + 1)
 idle-queued_requests channel steps mail h n later l =
     ap (λ x. queued_requests x mail later) (idle-issued channel steps n) ∙ queued_requests-until (issued_commands channel steps) mail (length steps + 1) later l h
@@ -66,7 +66,7 @@ pub drains-twice : (s : Config) (draining : Bool) (writes : ℕ) → drains_with
 drains-twice s draining writes = settled_twice _ _ draining
 
 -- in each of them the channel drains as in the first
-pub idle-drains : (s : Config) (channel : ℕ) (steps : List (Option Command)) (mail : List Message) → Each (ArrivedBefore (length steps + 1)) (requests_of mail) → (n : ℕ)
+pub idle-drains : (s : Config) (channel : ℕ) (steps : List (Option Command)) (mail : List Message) → Each (ArrivedBefore (length steps + 1)) (carried_requests mail) → (n : ℕ)
     → drains s channel (steps ++ replicate n None) mail (length (steps ++ replicate n None)) ≡ drains s channel steps mail (length steps)
 idle-drains s channel steps mail h zero = ap (λ x. drains s channel x mail (length x)) (append-nil steps)
 idle-drains s channel steps mail h (suc n) =
@@ -84,7 +84,7 @@ idle-drains s channel steps mail h (suc n) =
     ∙ idle-drains s channel steps mail h n
 
 -- what the channel would choose in each of them
-pub idle-choice : (s : Config) (channel : ℕ) (steps : List (Option Command)) (mail : List Message) → Each (ArrivedBefore (length steps + 1)) (requests_of mail) → (n : ℕ)
+pub idle-choice : (s : Config) (channel : ℕ) (steps : List (Option Command)) (mail : List Message) → Each (ArrivedBefore (length steps + 1)) (carried_requests mail) → (n : ℕ)
     → choice s channel (steps ++ replicate n None) mail
     ≡ choice_between s (issued_commands channel steps) (length steps + n)
     (candidates s (drains s channel steps mail (length steps)) (queued_requests (issued_commands channel steps) mail (length steps + 1)))
@@ -121,7 +121,7 @@ idle-has_due s channel steps n k l h =
     ∙ sym (has_due-next s channel steps)
 
 -- each of these cycles counts as much as the first
-pub idle-cycle : (s : Config) (channel : ℕ) (steps : List (Option Command)) (mail : List Message) → Each (ArrivedBefore (length steps + 1)) (requests_of mail)
+pub idle-cycle : (s : Config) (channel : ℕ) (steps : List (Option Command)) (mail : List Message) → Each (ArrivedBefore (length steps + 1)) (carried_requests mail)
     → (n k : ℕ) → k < n → IsDueAlike s channel steps n
     → channel_cycle s channel (steps ++ replicate k None) mail None ≡ channel_cycle s channel steps mail None
 unfolding channel_cycle queue_length

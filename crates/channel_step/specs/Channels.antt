@@ -11,9 +11,10 @@
 --     HasMore c s history earlier older      the requests from place `older` on have joined the queue of a channel
 --     idle_after p from cycle      a past, and cycles in which nothing is issued and nothing arrives
 --     issues_in p from cycle      whether a channel issues a command in a cycle, if nothing arrives
---     NoneIsIssued s history queue from end      nothing is issued before a cycle
+--     NoneIsIssued s history queue from end      nothing is issued from one cycle up to another
+--     StaysNext c older old new      what was known of the next command is right after arrivals too
 --     IsNextCommand s history queue from next_command      what is known of the next command is right
---     IsForeseen s history queue from next_command      the same, as two facts
+--     IsForeseen s history queue from next_command      what is known of the next command is right, as two facts
 --     Foresees c s history      what a channel knows of its next command is right
 --     IsFound c s history now next      the next command from a cycle on, if there is one
 --     HasRank c rank, HasBank c bank      a channel of a machine with this rank, or with this bank
@@ -52,10 +53,10 @@ use Rattle.channel_step.specs.Counted.{cycle_with_hit}
 use Rattle.channel_step.specs.FrFcfs.Choices.{StandFor, choice_in, command_of, IsFor, HasPlace}
 use Rattle.channel_step.specs.FrFcfs.Requests.{IsInBanks}
 use Rattle.channel_step.specs.FrFcfs.Cycles.{IsNext}
-use Rattle.channel_step.specs.declared.fr_fcfs.choice.Choice.{Choice}
+use Rattle.channel_step.specs.declared.fr_fcfs.choice.Need.{Need}
 use Rattle.request_table.specs.Served.{served_requests}
 use Rattle.request_table.specs.declared.served_requests.ServedRequest.{ServedRequest}
-use Rattle.channel_step.specs.Past.{Steps, Past, past_of, commands_after, choice_after, requests_of}
+use Rattle.channel_step.specs.Past.{Steps, Past, past_of, commands_after, choice_after, carried_requests}
 use Rattle.channel_step.specs.Fit.{idle_until, IsIdle}
 use Rattle.channel_step.specs.Latencies.{answer_latencies}
 use Rattle.channel_step.specs.Queued.{activated_in}
@@ -89,10 +90,11 @@ abbrev pub NoneIsIssued : Config → List IssuedCommand → QueueView → ℕ �
 NoneIsIssued s history queue from end = (t : ℕ) → from ≤ t → t < end → choice_in s history queue t ≡ None
 
 -- what was chosen needs a command that is issued in `cycle`, and none is issued in the cycles from `from` up to that
-pub record IsNextCommandAt (s : Config) (history : List IssuedCommand) (queue : QueueView) (from cycle : ℕ) (choice : Choice) : Type 0 where
-  pub then_is : choice_in s history queue cycle ≡ command_of s history queue.log choice
+pub record IsNextCommandAt (s : Config) (history : List IssuedCommand) (queue : QueueView) (from cycle : ℕ)
+    (need : Need) : Type 0 where
+  pub then_is : choice_in s history queue cycle ≡ command_of s history queue.log need
   pub none_before : NoneIsIssued s history queue from cycle
-  pub place : IsFor s.ranks queue.log choice
+  pub place : IsFor s.ranks queue.log need
 
 -- what is known of the next command from `from` on: nothing; or that none is ever issued; or its cycle, and what needs
 -- it
@@ -109,17 +111,18 @@ NextCommandIsFor ranks log (Known next) = HasPlace ranks log next
 -- What is known of the next command is so from a cycle on:
 --     never      there is none
 --     at      it is issued in its cycle, and none before that
-pub record IsForeseen (s : Config) (history : List IssuedCommand) (queue : QueueView) (from : ℕ) (next_command : NextCommand) : Type 0 where
+pub record IsForeseen (s : Config) (history : List IssuedCommand) (queue : QueueView) (from : ℕ)
+    (next_command : NextCommand) : Type 0 where
   pub never : next_command ≡ Known None → (t : ℕ) → from ≤ t → choice_in s history queue t ≡ None
-  pub at : (cycle : ℕ) (choice : Choice) → next_command ≡ Known (Some (cycle, choice))
-      → IsNextCommandAt s history queue from cycle choice
+  pub at : (cycle : ℕ) (need : Need) → next_command ≡ Known (Some (cycle, need))
+      → IsNextCommandAt s history queue from cycle need
 
 -- what a channel knows of its next command is so after these commands, as long as nothing arrives
 abbrev pub Foresees : Channel → Config → List IssuedCommand → Type 0
 Foresees c s history = IsForeseen s history c.queue c.cycle c.next_command
 
 -- the next command from `now` on, and what needs it, if there is one
-abbrev pub IsFound : Channel → Config → List IssuedCommand → ℕ → Option (ℕ × Choice) → Type 0
+abbrev pub IsFound : Channel → Config → List IssuedCommand → ℕ → Option (ℕ × Need) → Type 0
 IsFound c s history now next =
     IsNext (choice_in s history c.queue) (command_of s history c.queue.log) now next × HasPlace s.ranks c.queue.log next
 
@@ -129,16 +132,24 @@ PartsStand c s history = StandFor c.bank_candidates c.banks c.refresh c.queue c.
 
 -- The requests from place `older` on have come into the queue of a channel since the queue was `earlier`. The banks and
 -- the candidates stand for the commands so far, and the candidates for the queue as it is now.
-pub record HasMore (c : Channel) (s : Config) (history : List IssuedCommand) (earlier : QueueView) (older : ℕ) : Type 0 where
+pub record HasMore (c : Channel) (s : Config) (history : List IssuedCommand) (earlier : QueueView) (older : ℕ)
+    : Type 0 where
   pub banks_stand : BanksStandFor c.banks s history
   pub candidates_stand : CandidatesStand c.bank_candidates c.queue.log history
   pub high_is : s.write_high ≡ c.queue.high
   pub earlier_is : earlier.log ≡ take older c.queue.log
 
+-- what was known of the next command of a channel, before the requests from a place of its log on arrived, is right
+-- with them too where `new` takes its place
+abbrev pub StaysNext : Channel → ℕ → NextCommand → NextCommand → Type 0
+StaysNext c older old new =
+    (s : Config) (history : List IssuedCommand) (earlier : QueueView) → HasMore c s history earlier older
+    → IsNextCommand s history earlier c.cycle old → IsNextCommand s history c.queue c.cycle new
+
 -- these are the requests that these commands served, given the arrival of each request that these messages carry
 abbrev pub AreServed : List ServedRequest → List IssuedCommand → List Message → Type 0
 AreServed rows history mail =
-    (arrivals : Source → ℕ) → Each (λ r. r.arrival ≡ arrivals (source_of r)) (requests_of mail)
+    (arrivals : Source → ℕ) → Each (λ r. r.arrival ≡ arrivals (source_of r)) (carried_requests mail)
     → rows ≡ served_requests arrivals history
 
 -- the requests that are kept, if they are, are those that these commands served, given the arrival of each request that
@@ -237,15 +248,15 @@ pub record IsNextIn (p : Past) (end cycle : ℕ) (command : Command) : Type 0 wh
 
 -- the next command that is issued after a past, if nothing arrives any more, and what needs it: a request of a log, or
 -- a rank
-pub record IsNeededIn (p : Past) (log : List Arrived) (end cycle : ℕ) (chosen : Choice) : Type 0 where
+pub record IsNeededIn (p : Past) (log : List Arrived) (end cycle : ℕ) (need : Need) : Type 0 where
   pub command : Command
-  pub place : IsFor p.config.ranks log chosen
-  pub needed : command_of p.config (commands_after p) log chosen ≡ Some command
+  pub place : IsFor p.config.ranks log need
+  pub needed : command_of p.config (commands_after p) log need ≡ Some command
   pub is_next : IsNextIn p end cycle command
 
 -- what needs the next command that is issued after a past and before `end`, if nothing arrives any more, or none where
 -- none is issued
-abbrev pub IsNextBefore : Past → List Arrived → ℕ → Option (ℕ × Choice) → Type 0
+abbrev pub IsNextBefore : Past → List Arrived → ℕ → Option (ℕ × Need) → Type 0
 IsNextBefore p log end (Some next) = IsNeededIn p log end next.0 next.1
 IsNextBefore p log end None = IsIdle p.config p.channel p.steps p.mail (end - length p.steps)
 
@@ -255,7 +266,8 @@ CountsDrains c = is_some c.stats.draining ≡ nat_lt 0 c.config.write_high
 
 -- what is seen of a channel before it issues a command, where it is known whether a refresh is due
 abbrev pub seen_with : Channel → Bool → Seen
-seen_with c refreshing = record { queued = length (waiting_requests c.queue.log); refreshing = refreshing; draining = is_draining c.queue }
+seen_with c refreshing =
+    record { queued = length (waiting_requests c.queue.log); refreshing = refreshing; draining = is_draining c.queue }
 
 -- what is seen of a channel in a cycle, before it issues a command
 abbrev pub seen_of : Channel → ℕ → Seen
@@ -270,7 +282,8 @@ counted c seen command hit =
 -- a channel once its cycle is counted, in which this was seen and it issued this command: the cycle is over, and what
 -- comes next is not known
 abbrev pub after_cycle : Channel → Seen → Command → Bool → Channel
-after_cycle c seen command hit = record c { cycle = c.cycle + 1; next_command = Unknown; stats = counted c seen command hit }
+after_cycle c seen command hit =
+    record c { cycle = c.cycle + 1; next_command = Unknown; stats = counted c seen command hit }
 
 -- the statistics of a cycle in which a channel issues nothing
 abbrev pub idle_cycle : Channel → ℕ → ChannelStats

@@ -1,5 +1,7 @@
 -- What may arrive at a channel that is run alone over a span of cycles, and what lets cycles be skipped.
---     is_named_by command r      a command stands in the name of a request
+--     comes_from source r      a source, if there is one, is that of a request
+--     NoneIssuedFor history r      no command of a history stands in the name of a request
+--     is_issued_for command r      a command stands in the name of a request
 --     IsFit s channel steps mail inbox from until      messages that may arrive in a span
 --     IsFitAfter p inbox from until      messages that may arrive in a span after a past
 --     idle_until steps from cycle      these steps, and cycles in which nothing is issued
@@ -17,20 +19,20 @@ use Rattle.sim_base.specs.declared.command.Source.{Source}
 use Rattle.sim_base.specs.declared.message.Message.{Message}
 use Rattle.sim_base.specs.declared.message.Request.{Request}
 use Rattle.std.specs.Prelude.{Some}
-use Rattle.channel_step.specs.Past.{Steps, Past, requests_of, CarriesRequest, Differ}
+use Rattle.channel_step.specs.Past.{Steps, Past, carried_requests, CarriesRequest, Differ}
 
 -- a request is of the entry in whose name something is done, where that is done in the name of one
-abbrev pub is_of : Option Source → Request → Bool
-is_of None r = false
-is_of (Some source) r = is_source r source
+abbrev pub comes_from : Option Source → Request → Bool
+comes_from None r = false
+comes_from (Some source) r = is_source r source
 
 -- a command stands in the name of a request
-abbrev pub is_named_by : Command → Request → Bool
-is_named_by command r = is_of (source_in command) r
+abbrev pub is_issued_for : Command → Request → Bool
+is_issued_for command r = comes_from (source_in command) r
 
 -- no command stands in the name of a request
-abbrev pub IsUnnamed : List IssuedCommand → Request → Type 0
-IsUnnamed history r = Each (λ (i : IssuedCommand). is_named_by i.command r ≡ false) history
+abbrev pub NoneIssuedFor : List IssuedCommand → Request → Type 0
+NoneIssuedFor history r = Each (λ (i : IssuedCommand). is_issued_for i.command r ≡ false) history
 
 -- each message arrives before those that follow it, or with them on a lower link: so at most one arrives on a link in a
 -- cycle
@@ -42,14 +44,14 @@ ComeByAge (m ∷ ms) = Each (λ (n : Message). is_before m n ≡ true) ms × Com
 --     requests, by_age      each carries a request for the channel, and they come by arrival and then by link
 --     in_span      they arrive in the span
 --     differ      no two requests are of one entry, those that arrived before the span among them
---     unnamed      no earlier command stands in the name of one, since none is issued for what has not arrived
+--     none_issued      no earlier command stands in the name of one, since none is issued for what has not arrived
 --     room      in the run that follows from them the queue has a place for each
 pub record IsFit (s : Config) (channel : ℕ) (steps : Steps) (mail inbox : List Message) (from until : ℕ) : Type 0 where
   pub requests : Each (CarriesRequest s channel) inbox
   pub by_age : ComeByAge inbox
   pub in_span : Each (λ (m : Message). (from ≤ m.arrival) × (m.arrival < until)) inbox
-  pub differ : Differ (requests_of (mail ++ inbox))
-  pub unnamed : Each (IsUnnamed (issued_commands channel steps)) (requests_of inbox)
+  pub differ : Differ (carried_requests (mail ++ inbox))
+  pub none_issued : Each (NoneIssuedFor (issued_commands channel steps)) (carried_requests inbox)
   pub room : (n : ℕ) → from + n < until
       → queue_length channel (channel_run s channel steps (mail ++ inbox) n) (mail ++ inbox) (from + n) ≤ queue_room s
 

@@ -6,10 +6,10 @@
 --     commands_after p, stats_after p      the commands of a past, and its statistics
 --     waiting_after p      the requests that wait after a past
 --     choice_after p      the command that a channel issues in the cycle after a past, if it issues one
---     requests_of mail      the requests that messages carry
+--     carried_requests mail      the requests that messages carry
 --     CarriesRequest s channel m      a message carries a request for this channel, as a core of the machine sends it
 --     Differ requests      no two of these requests are of one entry
---     is_named history r      an ACT was issued in the name of a request
+--     has_act history r      an ACT was issued in the name of a request
 --     IsPast p      the messages of a past are those that may have arrived
 use Rattle.std.specs.Prelude.{◌≡◌, ℕ, ◌<◌, Bool, false, List, [], ◌∷◌, ◌++◌, length, filter_map, Option, Some, None}
 use Rattle.std.specs.List.{list_any, AllByRecursion as Each}
@@ -67,8 +67,8 @@ abbrev pub choice_after : Past → Option Command
 choice_after p = choice p.config p.channel p.steps p.mail
 
 -- the requests that messages carry, in their order
-abbrev pub requests_of : List Message → List Request
-requests_of mail = filter_map (λ m. request_in m.payload) mail
+abbrev pub carried_requests : List Message → List Request
+carried_requests mail = filter_map (λ m. request_in m.payload) mail
 
 -- A request for a channel, as the message that carries it tells: it comes from a core of the machine on that core's
 -- link, says when it arrives and on which link, and lies where its address does, which is in this channel.
@@ -99,11 +99,11 @@ Differ [] = Unit {0}
 Differ (r ∷ rs) = Each (IsOther r) rs × Differ rs
 
 -- an ACT was issued in the name of a request, so that its data is no row hit
-abbrev pub is_named : List IssuedCommand → Request → Bool
-is_named history r = list_any (λ i. is_act_for (source_of r) i.command) history
+abbrev pub has_act : List IssuedCommand → Request → Bool
+has_act history r = list_any (λ i. is_act_for (source_of r) i.command) history
 
 -- Each of the messages of a past carries a request and has arrived, and no two requests are of one entry.
 pub record IsPast (p : Past) : Type 0 where
   pub requests : Each (CarriesRequest p.config p.channel) p.mail
   pub arrived : Each (λ (m : Message). m.arrival < length p.steps) p.mail
-  pub differ : Differ (requests_of p.mail)
+  pub differ : Differ (carried_requests p.mail)

@@ -41,4 +41,12 @@ kept_rows kept = option_map (λ rows. rows.items) kept
 -- the request that a channel serves in a cycle, as it is kept
 abbrev pub served_now : ℕ → ℕ → Request → Bool → ServedRequest
 served_now channel cycle r hit =
-    record { entry = r.entry; arrived = r.arrival; served = cycle; channel = channel; core = r.core; access = r.access; hit = hit }
+    record {
+      entry = r.entry;
+      arrived = r.arrival;
+      served = cycle;
+      channel = channel;
+      core = r.core;
+      access = r.access;
+      hit = hit;
+    }

@@ -1,5 +1,5 @@
 -- A channel that issues a command in a cycle.
---     IsChosen c choice      a channel is in a cycle, and this was chosen for it
+--     IsChosen c need      a channel is in a cycle, and this needs its command
 --     IsDoing c place command      a channel issues a command in a cycle, and at a place a request waits
 --     request_of c place      the request at a place of a channel's log
 --     column_command_at c place      the column command of the request at a place
@@ -11,7 +11,7 @@
 --     IsReadied c p command hit      a channel is as after a command, which it has still to count
 --     HasReadied old new command hit      a channel is readied for a command, wherever it issues that
 --     seen_after p      what is seen of a channel in the cycle after a past
---     IsReady c command hit seen      a channel is readied, after some past, and this was seen before
+--     IsReadiedInSomePast c command hit seen      a channel is readied, after some past, and this was seen before
 use Rattle.std.specs.Prelude.{◌≡◌, ℕ, ◌+◌, ◌<◌, ◌≤◌, Bool, true, List, length, is_some, Some, None}
 use Rattle.std.specs.List.{AllByRecursion as Each}
 use Rattle.sim_base.specs.Scheduling.{drains, lowest_due, queued_requests, source_of, column_command, needed_at, needed, refresh_command, queue_room}
@@ -26,8 +26,8 @@ use Rattle.bank_ready.specs.Refreshes.{StandsFor as RefreshesStandFor}
 use Rattle.queue.specs.Log.{waiting_requests, waits_at}
 use Rattle.statistics.specs.Channels.{issues_hit}
 use Rattle.channel_step.specs.FrFcfs.Choices.{command_of, IsFor}
-use Rattle.channel_step.specs.declared.fr_fcfs.choice.Choice.{Choice}
-use Rattle.channel_step.specs.Past.{Past, commands_after, stats_after, choice_after, requests_of, CarriesRequest, Differ}
+use Rattle.channel_step.specs.declared.fr_fcfs.choice.Need.{Need}
+use Rattle.channel_step.specs.Past.{Past, commands_after, stats_after, choice_after, carried_requests, CarriesRequest, Differ}
 use Rattle.channel_step.specs.Queued.{activated_in, request_at}
 use Rattle.channel_step.specs.Stands.{activated_of}
 use Rattle.channel_step.specs.Channels.{CandidatesStand, KeepsServed, IsMadeFor, IsInCycle, ForCycles}
@@ -35,12 +35,12 @@ use Rattle.channel_step.specs.declared.channel.Channel.{Channel}
 use Rattle.channel_step.specs.declared.counting.Seen.{Seen}
 
 -- a channel is in a cycle, after some past, and this was chosen for it: it needs the command that the channel issues
-pub record IsChosen (c : Channel) (chosen : Choice) : Type 0 where
+pub record IsChosen (c : Channel) (need : Need) : Type 0 where
   pub past : Past
   pub command : Command
   pub is_in : IsInCycle c past
-  pub place : IsFor past.config.ranks c.queue.log chosen
-  pub needed : command_of past.config (commands_after past) c.queue.log chosen ≡ Some command
+  pub place : IsFor past.config.ranks c.queue.log need
+  pub needed : command_of past.config (commands_after past) c.queue.log need ≡ Some command
   pub is_chosen : Some command ≡ choice_after past
 
 -- a channel is in a cycle, after some past, in which it issues a command, and at a place of its log a request waits
@@ -91,13 +91,13 @@ pub record IsReadied (c : Channel) (p : Past) (command : Command) (hit : Bool) :
   pub cycle_is : c.cycle ≡ length p.steps
   pub requests : Each (CarriesRequest p.config p.channel) p.mail
   pub arrived : Each (λ (m : Message). m.arrival < length p.steps + 1) p.mail
-  pub differ : Differ (requests_of p.mail)
+  pub differ : Differ (carried_requests p.mail)
   pub chosen : Some command ≡ choice_after p
   pub hit_is : issues_hit (commands_after p) (Some command) ≡ hit
   pub within_before : length (queued_requests (commands_after p) p.mail (length p.steps + 1)) ≤ queue_room p.config
   pub queue_is : waiting_requests c.queue.log ≡ queued_requests (commands_with p command) p.mail (length p.steps + 1)
   pub drained_is : c.queue.drain_decided ≡ drains p.config p.channel p.steps p.mail (length p.steps)
-  pub marks_are : activated_in c.queue.log ≡ activated_of (commands_with p command) (waiting_requests c.queue.log)
+  pub activated_are : activated_in c.queue.log ≡ activated_of (commands_with p command) (waiting_requests c.queue.log)
   pub stats_are : c.stats ≡ stats_after p
   pub candidates_stand : CandidatesStand c.bank_candidates c.queue.log (commands_with p command)
   pub banks_stand : BanksStandFor c.banks p.config (commands_after p)
@@ -113,7 +113,7 @@ seen_after p = record {
 }
 
 -- a channel is readied for a command in a cycle, after some past, and this was seen in it
-pub record IsReady (c : Channel) (command : Command) (hit : Bool) (seen : Seen) : Type 0 where
+pub record IsReadiedInSomePast (c : Channel) (command : Command) (hit : Bool) (seen : Seen) : Type 0 where
   pub past : Past
   pub is_readied : IsReadied c past command hit
   pub seen_is : seen ≡ seen_after past

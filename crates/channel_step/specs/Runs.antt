@@ -1,5 +1,5 @@
 -- What a channel does over a span of cycles.
---     first_arrival inbox until      when the first of these messages arrives
+--     first_arrival_or inbox until      when the first of these messages arrives
 --     with_more kept more      what a list holds with more behind it, if one is kept
 --     with_command kept channel cycle command      what a list holds with the command of a cycle behind it
 --     IsListed c command old new      a command was put behind what a list held
@@ -39,9 +39,9 @@ abbrev pub IsListed : Channel → Command → Option (List IssuedCommand) → Op
 IsListed c command old new = new ≡ with_command old c.number c.cycle command
 
 -- when the first of these messages arrives, or `until` where there is none
-abbrev pub first_arrival : List Message → ℕ → ℕ
-first_arrival [] until = until
-first_arrival (m ∷ ms) until = m.arrival
+abbrev pub first_arrival_or : List Message → ℕ → ℕ
+first_arrival_or [] until = until
+first_arrival_or (m ∷ ms) until = m.arrival
 
 -- the steps of a past, and of n cycles more, in which these messages arrive
 abbrev pub steps_on : Past → List Message → ℕ → Steps
@@ -49,7 +49,8 @@ steps_on p inbox n = channel_run p.config p.channel p.steps (p.mail ++ inbox) n
 
 -- A channel has issued a command in the cycle after a past: the command, where commands are kept, and what is sent
 -- for it were put behind what two lists held.
-pub record HasIssued (c : Channel) (p : Past) (command : Command) (commands commands_then : Option (List IssuedCommand)) (messages messages_then : List Message) : Type 0 where
+pub record HasIssued (c : Channel) (p : Past) (command : Command) (commands commands_then : Option (List IssuedCommand))
+    (messages messages_then : List Message) : Type 0 where
   pub stands : HasPast c (with_step p (Some command))
   pub commands_are : commands_then ≡ with_command commands p.channel (length p.steps) command
   pub messages_are : messages_then ≡ messages ++ messages_at p.config p.channel (length p.steps) (Some command)
@@ -57,7 +58,8 @@ pub record HasIssued (c : Channel) (p : Past) (command : Command) (commands comm
 -- After the cycles from `from` up to `now` a channel stands for the steps of its run and for the messages that arrived
 -- in them; the other messages are fit for the rest of the span; and these commands and messages are those that were
 -- added.
-pub record HasRun (c : Channel) (p : Past) (inbox : List Message) (from now until arrived : ℕ) (commands : List IssuedCommand) (messages : List Message) : Type 0 where
+pub record HasRun (c : Channel) (p : Past) (inbox : List Message) (from now until arrived : ℕ)
+    (commands : List IssuedCommand) (messages : List Message) : Type 0 where
   pub stands : StandsFor c p.config p.channel (steps_on p inbox (now - from)) (p.mail ++ take arrived inbox)
   pub fit : IsFit p.config p.channel (steps_on p inbox (now - from)) (p.mail ++ take arrived inbox) (drop arrived inbox)
       now until
@@ -69,7 +71,8 @@ pub record HasRun (c : Channel) (p : Past) (inbox : List Message) (from now unti
 -- After the cycles from `now` up to `then` a channel stands for the steps of its run and for the messages that arrived
 -- in them; the others are fit for the rest of the span; and what is new was added to these commands, where they are
 -- kept, and messages.
-pub record HasAdvanced (c : Channel) (p : Past) (inbox : List Message) (now then until arrived : ℕ) (commands commands_then : Option (List IssuedCommand)) (messages messages_then : List Message) : Type 0 where
+pub record HasAdvanced (c : Channel) (p : Past) (inbox : List Message) (now then until arrived : ℕ)
+    (commands commands_then : Option (List IssuedCommand)) (messages messages_then : List Message) : Type 0 where
   pub issued : List IssuedCommand
   pub sent : List Message
   pub has_run : HasRun c p inbox now then until arrived issued sent
@@ -79,7 +82,8 @@ pub record HasAdvanced (c : Channel) (p : Past) (inbox : List Message) (now then
 -- After a span a channel stands for the steps of its run over it and for all messages that were sent to it. The
 -- commands, where they are kept, and the messages of the longer steps beyond those of the earlier ones were put behind
 -- what two lists held.
-pub record IsDone (c : Channel) (s : Config) (channel : ℕ) (steps : Steps) (mail inbox : List Message) (from until : ℕ) (commands commands_then : Option (List IssuedCommand)) (messages messages_then : List Message) : Type 0 where
+pub record IsDone (c : Channel) (s : Config) (channel : ℕ) (steps : Steps) (mail inbox : List Message) (from until : ℕ)
+    (commands commands_then : Option (List IssuedCommand)) (messages messages_then : List Message) : Type 0 where
   pub issued : List IssuedCommand
   pub sent : List Message
   pub stands : StandsFor c s channel (channel_run s channel steps (mail ++ inbox) (until - from)) (mail ++ inbox)

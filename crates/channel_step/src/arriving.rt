@@ -2,7 +2,7 @@
 
 ghost use Rattle.std.specs.Prelude.{◌≡◌, ◌+◌, ◌<◌, ◌≤◌, [], ◌∷◌, length};
 ghost use Rattle.queue.specs.Log.{waiting_requests};
-ghost use Rattle.channel_step.specs.Past.{requests_of};
+ghost use Rattle.channel_step.specs.Past.{carried_requests};
 ghost use Rattle.channel_step.specs.Queued.{joined_with, with_arrivals};
 
 use queue::Queue;
@@ -13,7 +13,7 @@ use sim_base::message::{Message, Payload};
 fn join(queue: &mut Queue, message: &Message)
     requires room { length (waiting_requests queue.old.log) < queue.old.room }
     requires places { length queue.old.log < queue.old.places }
-    ensures { queue.new ≡ joined_with queue.old (requests_of (message.now ∷ [])) }
+    ensures { queue.new ≡ joined_with queue.old (carried_requests (message.now ∷ [])) }
 {
     if let Payload::Request(request) = message.payload {
         queue.arrive(request);
@@ -26,7 +26,7 @@ fn join(queue: &mut Queue, message: &Message)
 pub(crate) fn admit(queue: &mut Queue, new: &[Message])
     requires room { length (waiting_requests queue.old.log) + length new.now ≤ queue.old.room }
     requires places { length queue.old.log + length new.now ≤ queue.old.places }
-    ensures { queue.new ≡ with_arrivals queue.old (requests_of new.now) }
+    ensures { queue.new ≡ with_arrivals queue.old (carried_requests new.now) }
 {
     for message in new {
         join(queue, message);

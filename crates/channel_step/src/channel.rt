@@ -1,6 +1,6 @@
 //! A channel that is run alone over a span of cycles.
 
-ghost use Rattle.std.specs.Prelude.{◌≡◌, true, false, ℕ, ◌+◌, ◌-◌, ◌*◌, ◌<◌, ◌≤◌, ◌^◌, ◌==◌, take, take_while, List, [], length, Some, None, is_some, nat_le, IfOk, OnOk};
+ghost use Rattle.std.specs.Prelude.{◌≡◌, true, false, ℕ, ◌+◌, ◌-◌, ◌*◌, ◌<◌, ◌≤◌, ◌^◌, ◌==◌, take, take_while, List, [], length, Some, None, is_some, nat_le, IsTrue, IfOk, OnOk};
 ghost use Rattle.sim_base.specs.Rules.{open_row};
 ghost use Rattle.sim_base.specs.Scheduling.{choice, due, queue_room};
 ghost use Rattle.sim_base.specs.declared.config.Config.{Config};
@@ -13,28 +13,28 @@ ghost use Rattle.queue.specs.Log.{waiting_requests};
 ghost use Rattle.queue.specs.Stands.{bank_count, StandsFor as CandidatesStandFor};
 ghost use Rattle.queue.specs.View.{QueueView, empty_queue, renumbered};
 ghost use Rattle.channel_step.specs.FrFcfs.Choices.{HasPlace, command_of};
-ghost use Rattle.channel_step.specs.declared.fr_fcfs.choice.Choice.TheVariants as chosen;
+ghost use Rattle.channel_step.specs.declared.fr_fcfs.choice.Need.TheVariants as Needs;
 ghost use Rattle.channel_step.specs.FrFcfs.Requests.{AreInBanks, OfSameBanks};
 ghost use Rattle.channel_step.specs.FrFcfs.Cycles.{IsFirstCycle};
 ghost use Rattle.statistics.specs.Channels.{ChannelFits};
 ghost use Rattle.channel_step.specs.declared.next_command.NextCommand.TheVariants.{Known};
 ghost use Rattle.channel_step.specs.Past.{Past, commands_after, waiting_after, stats_after, choice_after, with_step, with_mail};
-ghost use Rattle.channel_step.specs.Channels.{KeepsServed, StandsFor, HasPast, ForPasts, StandForTheSame, PartsStand, HasMore};
+ghost use Rattle.channel_step.specs.Channels.{KeepsServed, StandsFor, HasPast, ForPasts, StandForTheSame, PartsStand, StaysNext};
 ghost use Rattle.channel_step.specs.Channels.{IsNextCommand, NextCommandIsFor, IsFound, NoneIsIssued, HasRank, HasBank, issues_in};
 ghost use Rattle.channel_step.specs.Channels.{IsInCycle, ForCycles, IsInSomeCycle, StaysInCycle, IsNextBefore, idle_after};
 ghost use Rattle.channel_step.specs.Channels.{CountsDrains, seen_with, seen_of, counted, after_cycle, skipped};
-ghost use Rattle.channel_step.specs.Readied.{IsChosen, IsDoing, IsReadied, IsReady, HasReadied, seen_after};
+ghost use Rattle.channel_step.specs.Readied.{IsChosen, IsDoing, IsReadied, IsReadiedInSomePast, HasReadied, seen_after};
 ghost use Rattle.channel_step.specs.Readied.{opening_command, closing_command, column_command_at, command_needed, rank_command};
 ghost use Rattle.channel_step.specs.Fit.{IsFitAfter};
-ghost use Rattle.channel_step.specs.Runs.{CanStep, CanRun, ForSpan, HasIssued, HasAdvanced, IsDoneAfter, StandsAt, first_arrival, IsListed};
+ghost use Rattle.channel_step.specs.Runs.{CanStep, CanRun, ForSpan, HasIssued, HasAdvanced, IsDoneAfter, StandsAt, first_arrival_or, IsListed};
 
 use crate::arriving::admit;
-use crate::counting::{Seen, drained};
+use crate::counting::{Seen, draining_of};
 use crate::fr_fcfs::arrivals::stays;
-use crate::fr_fcfs::choice::{ChannelParts, Choice, next};
+use crate::fr_fcfs::choice::{ChannelParts, Need, next};
 use crate::fr_fcfs::needs::refresh_command;
 use crate::next_command::NextCommand;
-use crate::noting::{keep_served, note_refresh};
+use crate::noting::{note_if_ref, note_served};
 use crate::sending::{AnswerLatencies, AnsweringChannel, answer_latencies, keep, send};
 use bank_ready::banks::Banks;
 use bank_ready::refresh::Refresh;
@@ -86,7 +86,7 @@ impl Channel {
         let (own, queue) = copy_and_queue(alloc, config)?;
         let (banks, bank_candidates) = banks_and_candidates(alloc, config)?;
         let mut stats = ChannelStats::new();
-        stats.draining = drained(config, 0);
+        stats.draining = draining_of(config, 0);
         Ok(Channel {
             config: own,
             number,
@@ -131,11 +131,11 @@ impl Channel {
         ensures { ForPasts self.now (λ past.
             IfOk result (λ requests. requests.items ≡ waiting_after past)) }
     {
-        self.queue.waiting(alloc)
+        self.queue.waiting_requests(alloc)
     }
 
     /// How many requests wait.
-    pub fn waiting(&self) -> usize
+    pub fn waiting_count(&self) -> usize
         ensures { ForPasts self.now (λ past. result ≡ length (waiting_after past)) }
     {
         self.queue.len()
@@ -179,10 +179,10 @@ impl Channel {
         }
     }
 
-    /// The first cycle with a command from `now` on, if nothing arrives, and that command; None where there is none. It
-    /// is looked for only if it is not known yet.
+    /// The first cycle with a command from `now` on, if nothing arrives, and what needs that command; None where there
+    /// is none. It is looked for only if it is not known yet.
     #[inline(always)]
-    fn find(&self, now: Cycle) -> Option<(Cycle, Choice)>
+    fn find(&self, now: Cycle) -> Option<(Cycle, Need)>
         requires places { AreInBanks (rank_count self.now.banks) self.now.queue.log }
         requires banks { OfSameBanks self.now.bank_candidates self.now.banks }
         requires ranks { self.now.refresh.ranks ≤ rank_count self.now.banks }
@@ -194,7 +194,7 @@ impl Channel {
     {
         match self.next_command {
             NextCommand::Known(None) => None,
-            NextCommand::Known(Some((cycle, choice))) if now <= cycle => Some((cycle, choice)),
+            NextCommand::Known(Some((cycle, need))) if now <= cycle => Some((cycle, need)),
             _ => next(
                 &ChannelParts {
                     queue: &self.queue,
@@ -221,9 +221,9 @@ impl Channel {
         }
     }
 
-    /// The next command that the channel issues, and in which cycle, if that cycle is before `end` and nothing arrives
-    /// before it. Otherwise what was found is kept.
-    fn look(&mut self, now: Cycle, end: Cycle) -> Option<(Cycle, Choice)>
+    /// The cycle of the next command that the channel issues, and what needs that command, if the cycle is before `end`
+    /// and nothing arrives before it. Otherwise what was found is kept.
+    fn look(&mut self, now: Cycle, end: Cycle) -> Option<(Cycle, Need)>
         requires { IsInSomeCycle self.old now }
         ensures same_queue { self.new.queue ≡ self.old.queue }
         ensures in_cycle { StaysInCycle self.old self.new }
@@ -235,7 +235,7 @@ impl Channel {
         }
         let found = self.find(now);
         match found {
-            Some((cycle, choice)) if cycle < end => Some((cycle, choice)),
+            Some((cycle, need)) if cycle < end => Some((cycle, need)),
             _ => {
                 self.next_command = NextCommand::Known(found);
                 None
@@ -355,7 +355,7 @@ impl Channel {
         seen: Seen,
         commands: &mut Option<CommandList>,
     ) -> Result<(), AllocError>
-        requires ready { IsReady self.old command hit seen }
+        requires ready { IsReadiedInSomePast self.old command hit seen }
         requires early { self.old.cycle < 2 ^ 62 }
         ensures stands { (past : Past) → IsReadied self.old past command hit
             → seen ≡ seen_after past → HasPast self.new (with_step past (Some command)) }
@@ -363,7 +363,7 @@ impl Channel {
     {
         let now = self.cycle;
         self.banks.note(command, now);
-        note_refresh(&mut self.refresh, command, now);
+        note_if_ref(&mut self.refresh, command, now);
         self.count(seen, command, hit);
         keep(self.number, now, command, commands)
     }
@@ -372,7 +372,7 @@ impl Channel {
     /// else its REF.
     #[inline(always)]
     fn ready_rank(&mut self, rank: u32) -> Command
-        requires { IsChosen self.old (chosen.Refresh rank) }
+        requires { IsChosen self.old (Needs.Refresh rank) }
         ensures command { ForCycles self.old (λ past. result ≡ rank_command past rank) }
         ensures readied { HasReadied self.old self.new result false }
     {
@@ -390,7 +390,7 @@ impl Channel {
         rank: u32,
         commands: &mut Option<CommandList>,
     ) -> Result<(), AllocError>
-        requires chosen { IsChosen self.old (chosen.Refresh rank) }
+        requires chosen { IsChosen self.old (Needs.Refresh rank) }
         requires early { self.old.cycle < 2 ^ 62 }
         ensures { ForCycles self.old (λ past. (messages : List Message)
             → Some (rank_command past rank) ≡ choice_after past
@@ -451,7 +451,7 @@ impl Channel {
             .on_service(place, unblocked, self.queue.log());
         let served = &self.queue.log().log()[place];
         let hit = !served.activated;
-        keep_served(
+        note_served(
             &mut self.served,
             self.number,
             &served.request,
@@ -500,7 +500,7 @@ impl Channel {
         commands: &mut Option<CommandList>,
         messages: &mut Vec<Message>,
     ) -> Result<(), AllocError>
-        requires chosen { IsChosen self.old (chosen.Request place) }
+        requires chosen { IsChosen self.old (Needs.Request place) }
         requires early { self.old.cycle < 2 ^ 62 }
         ensures { ForCycles self.old (λ past.
             Some (command_needed self.old (commands_after past) place) ≡ choice_after past
@@ -523,11 +523,11 @@ impl Channel {
         }
     }
 
-    /// Does what was chosen for this cycle, and counts the cycle. On an error some of it may not be done.
+    /// Issues the command of this cycle for what needs it, and counts the cycle. On an error some of it may not be done.
     #[inline(always)]
     fn perform(
         &mut self,
-        found: Choice,
+        found: Need,
         commands: &mut Option<CommandList>,
         messages: &mut Vec<Message>,
     ) -> Result<(), AllocError>
@@ -540,22 +540,19 @@ impl Channel {
             commands.old commands.new messages.old.items messages.new.items)) }
     {
         match found {
-            Choice::Refresh(rank) => self.refresh_rank(rank, commands),
-            Choice::Request(place) => self.issue_for(place as usize, commands, messages),
+            Need::Refresh(rank) => self.refresh_rank(rank, commands),
+            Need::Request(place) => self.issue_for(place as usize, commands, messages),
         }
     }
 
     /// Whether what was found is known to be still the next command, now that the requests from a place on have
     /// arrived.
     #[inline(always)]
-    fn keeps_found(&self, found: Option<(Cycle, Choice)>, older: usize) -> bool
+    fn keeps_found(&self, found: Option<(Cycle, Need)>, older: usize) -> bool
         requires places { AreInBanks (rank_count self.now.banks) self.now.queue.log }
         requires banks { OfSameBanks self.now.bank_candidates self.now.banks }
         requires found { HasPlace (rank_count self.now.banks) self.now.queue.log found }
-        ensures { (s : Config) (history : List IssuedCommand) (earlier : QueueView)
-            → result ≡ true → HasMore self.now s history earlier older
-            → IsNextCommand s history earlier self.now.cycle (Known found)
-            → IsNextCommand s history self.now.queue self.now.cycle (Known found) }
+        ensures { IsTrue result → StaysNext self.now older (Known found) (Known found) }
     {
         match found {
             Some(next) => stays(&self.queue, &self.bank_candidates, &self.banks, older, next),
@@ -570,10 +567,8 @@ impl Channel {
         requires banks { OfSameBanks self.now.bank_candidates self.now.banks }
         requires next_command { NextCommandIsFor (rank_count self.now.banks)
             self.now.queue.log self.now.next_command }
-        ensures { (s : Config) (history : List IssuedCommand) (earlier : QueueView)
-            → result ≡ true → HasMore self.now s history earlier older
-            → IsNextCommand s history earlier self.now.cycle self.now.next_command
-            → IsNextCommand s history self.now.queue self.now.cycle self.now.next_command }
+        ensures { IsTrue result
+            → StaysNext self.now older self.now.next_command self.now.next_command }
     {
         match self.next_command {
             NextCommand::Known(found) => self.keeps_found(found, older),
@@ -590,10 +585,7 @@ impl Channel {
         requires next_command { NextCommandIsFor (rank_count self.old.banks)
             self.old.queue.log self.old.next_command }
         ensures rest { self.new ≡ record self.old { next_command = self.new.next_command } }
-        ensures next_command { (s : Config) (history : List IssuedCommand) (earlier : QueueView)
-            → HasMore self.old s history earlier older
-            → IsNextCommand s history earlier self.old.cycle self.old.next_command
-            → IsNextCommand s history self.old.queue self.old.cycle self.new.next_command }
+        ensures next_command { StaysNext self.old older self.old.next_command self.new.next_command }
     {
         if !self.keeps(older) {
             self.next_command = NextCommand::Unknown;
@@ -674,9 +666,9 @@ impl Channel {
         let arrived = self.arrive(inbox, now);
         let end = next_arrival(&inbox[arrived..], cycles.end);
         match self.look(now, end) {
-            Some((cycle, choice)) => {
+            Some((cycle, need)) => {
                 self.wait(cycle);
-                self.perform(choice, commands, messages)?;
+                self.perform(need, commands, messages)?;
                 Ok(Advance {
                     arrived,
                     last: cycle,
@@ -745,7 +737,7 @@ impl Channel {
     }
 }
 
-/// How many places a channel's queue has: one for each credit.
+/// How many requests may wait in a channel's queue: one for each credit of each core.
 pub fn queue_room(config: &Config) -> usize
     ensures room { result ≡ queue_room config.now }
     ensures most { result ≤ 8192 }
@@ -780,7 +772,7 @@ fn banks_and_candidates(
     Ok((banks, candidates))
 }
 
-/// How many banks a channel has.
+/// How many banks a channel keeps words for: 16 in each rank, also where the rank has fewer.
 fn banks_of(config: &Config) -> usize
     ensures banks { result ≡ 16 * config.now.ranks }
     ensures most { result ≤ 64 }
@@ -790,7 +782,7 @@ fn banks_of(config: &Config) -> usize
 
 /// Whether what was found is issued in no cycle before a given one.
 #[inline(always)]
-fn is_none_before(found: Option<(Cycle, Choice)>, end: Cycle) -> bool
+fn is_none_before(found: Option<(Cycle, Need)>, end: Cycle) -> bool
     ensures { (s : Config) (history : List IssuedCommand) (queue : QueueView) (from : ℕ)
         → result ≡ true → IsNextCommand s history queue from (Known found)
         → NoneIsIssued s history queue from end }
@@ -810,7 +802,7 @@ fn due_count(inbox: &[Message], now: Cycle) -> usize
 
 /// When the first of these messages arrives; `until`, where there is none.
 fn next_arrival(inbox: &[Message], until: Cycle) -> Cycle
-    ensures { result ≡ first_arrival inbox.now until }
+    ensures { result ≡ first_arrival_or inbox.now until }
 {
     match inbox.first() {
         Some(message) => message.arrival,

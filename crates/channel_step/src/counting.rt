@@ -17,7 +17,7 @@ pub(crate) struct Seen {
 }
 
 /// A number of cycles in which the channel drained its writes; None if it never drains.
-pub(crate) fn drained(config: &Config, cycles: u64) -> Option<u64>
+pub(crate) fn draining_of(config: &Config, cycles: u64) -> Option<u64>
     ensures { result ≡ draining_of config.now cycles }
 {
     if 0 < config.write_high {

@@ -17,7 +17,7 @@ use std::alloc::AllocError;
 /// Counts a command, where it is a REF, which is due then.
 #[inline(always)]
 #[tactic(auto, using(crate::proofs::Chosen::no_refresh, bank_ready::proofs::Due::stands_without_refresh))]
-pub(crate) fn note_refresh(refresh: &mut Refresh, command: Command, now: Cycle)
+pub(crate) fn note_if_ref(refresh: &mut Refresh, command: Command, now: Cycle)
     requires now { now < 2 ^ 62 }
     requires due { RefIsOwed refresh.old now command }
     ensures { (s : Config) (history : List IssuedCommand) (i : IssuedCommand) → i.command ≡ command
@@ -32,7 +32,7 @@ pub(crate) fn note_refresh(refresh: &mut Refresh, command: Command, now: Cycle)
 /// Adds the request whose column command a channel issues in a cycle to those that were served, where these are kept.
 /// On an error it is not added.
 #[inline(always)]
-pub(crate) fn keep_served(
+pub(crate) fn note_served(
     kept: &mut Option<Vec<ServedRequest>>,
     channel: ChannelId,
     request: &Request,

@@ -90,7 +90,8 @@ pub record IsFlag (o : Option Text) (set : Bool) : Type 0 where
   pub unset_by : o ≡ Some (codes "false") → set ≡ false
 
 -- a run with these values
-pub record IsRun (rows : List Row) (config : Text) (cycles workers : ℕ) (share : Share) (tables : Tables) (out : Text) (traces : List Text) : Type 0 where
+pub record IsRun (rows : List Row) (config : Text) (cycles workers : ℕ) (share : Share) (tables : Tables) (out : Text)
+    (traces : List Text) : Type 0 where
   pub config_is : first_of (codes "config") rows ≡ Some config
   pub cycles_is : IsCount (one_of (codes "cycles") rows) cycles
   pub workers_is : IsCount (one_of (codes "workers") rows) workers
@@ -110,7 +111,8 @@ pub record IsMap (rows : List Row) (config : Text) (address : ℕ) : Type 0 wher
   pub address_is : IsAddress (first_of (codes "address") rows) address
 
 -- a show with these values, with or without the banks
-pub record IsShow (rows : List Row) (banks : Bool) (dir : Text) (all : Bool) (config : Option Text) (khz : Option ℕ) : Type 0 where
+pub record IsShow (rows : List Row) (banks : Bool) (dir : Text) (all : Bool) (config : Option Text) (khz : Option ℕ)
+    : Type 0 where
   pub dir_is : first_of (codes "dir") rows ≡ Some dir
   pub all_is : IsFlag (one_of (codes "all") rows) all
   pub banks_is : IsFlag (one_of (codes "banks") rows) banks
@@ -118,7 +120,8 @@ pub record IsShow (rows : List Row) (banks : Bool) (dir : Text) (all : Bool) (co
   pub clock_is : IsClock (first_of (codes "mhz") rows) khz
 
 -- a page with these values: its timeline is of the first 2,000 cycles unless the words say otherwise
-pub record IsPage (rows : List Row) (dir file : Text) (config : Option Text) (khz : Option ℕ) (from cycles : ℕ) : Type 0 where
+pub record IsPage (rows : List Row) (dir file : Text) (config : Option Text) (khz : Option ℕ) (from cycles : ℕ)
+    : Type 0 where
   pub dir_is : first_of (codes "dir") rows ≡ Some dir
   pub file_is : first_of (codes "file") rows ≡ Some file
   pub config_is : first_of (codes "config") rows ≡ config

@@ -2,8 +2,8 @@
 --     first_cycle rows      the cycle of the first row
 --     AllUpTo cycle rows      none of the rows is after a cycle
 --     AllAfter cycle rows      each of the rows is after a cycle
---     IsNextOf lists count place cycle      of the first `count` lists, the one at this place begins in this cycle, and none earlier
---     IsNext lists place      the same of all lists
+--     IsNextOf lists count place cycle      of the first `count` lists, the one at a place begins first, in a cycle
+--     IsNext lists place      of all lists, the one at this place begins first
 use Rattle.std.specs.Prelude.{◌≡◌, ℕ, ◌<◌, ◌≤◌, List, [], ◌∷◌, length, slice_index_or, Option, Some, None, IfSome}
 use Rattle.std.specs.List.{AllByRecursion as Each}
 use Rattle.sim_base.specs.declared.command.IssuedCommand.{IssuedCommand}

@@ -1,5 +1,5 @@
 -- What a row that is kept in few bytes stands for.
---     command_of kind rank group bank row column core entry      the command of a kind, with as many of these operands as it has
+--     command_of kind rank group bank row column core entry      the command of a kind, with those operands that it has
 --     command_with kind operands      the same with operands that are together
 --     row_kept kind cycle entry row_and_channel column_and_bank core      the row that numbers of few bytes stand for
 --     operands_in command      the operands of a command, and 0 for those that it does not have
@@ -14,10 +14,14 @@ use Rattle.sim_base.specs.declared.command.Kind.TheVariants.{Act, Rd, Wr, Pre, P
 
 -- the command of a kind, with as many of these operands as it has
 abbrev pub command_of : Kind → ℕ → ℕ → ℕ → ℕ → ℕ → ℕ → ℕ → Command
-command_of Act rank group bank row column core entry = ACT (record { rank = rank; group = group; bank = bank }) row (record { core = core; entry = entry })
-command_of Rd rank group bank row column core entry = RD (record { rank = rank; group = group; bank = bank }) row column (record { core = core; entry = entry })
-command_of Wr rank group bank row column core entry = WR (record { rank = rank; group = group; bank = bank }) row column (record { core = core; entry = entry })
-command_of Pre rank group bank row column core entry = PRE (record { rank = rank; group = group; bank = bank }) (record { core = core; entry = entry })
+command_of Act rank group bank row column core entry =
+    ACT (record { rank = rank; group = group; bank = bank }) row (record { core = core; entry = entry })
+command_of Rd rank group bank row column core entry =
+    RD (record { rank = rank; group = group; bank = bank }) row column (record { core = core; entry = entry })
+command_of Wr rank group bank row column core entry =
+    WR (record { rank = rank; group = group; bank = bank }) row column (record { core = core; entry = entry })
+command_of Pre rank group bank row column core entry =
+    PRE (record { rank = rank; group = group; bank = bank }) (record { core = core; entry = entry })
 command_of Prea rank group bank row column core entry = PREA rank
 command_of Ref rank group bank row column core entry = REF rank
 
@@ -34,7 +38,8 @@ row_kept kind cycle entry row_and_channel column_and_bank core =
     record {
       cycle = cycle;
       channel = row_and_channel % 256;
-      command = command_of kind (column_and_bank / 16 % 4) (column_and_bank / 4 % 4) (column_and_bank % 4) (row_and_channel / 256) (column_and_bank / 64) core entry;
+      command = command_of kind (column_and_bank / 16 % 4) (column_and_bank / 4 % 4) (column_and_bank % 4)
+          (row_and_channel / 256) (column_and_bank / 64) core entry;
     }
 
 -- the operands of a command, and 0 for those that it does not have
@@ -43,8 +48,20 @@ operands_in (ACT bank row source) = record { bank = bank; row = row; column = 0;
 operands_in (RD bank row column source) = record { bank = bank; row = row; column = column; source = source }
 operands_in (WR bank row column source) = record { bank = bank; row = row; column = column; source = source }
 operands_in (PRE bank source) = record { bank = bank; row = 0; column = 0; source = source }
-operands_in (PREA rank) = record { bank = record { rank = rank; group = 0; bank = 0 }; row = 0; column = 0; source = record { core = 0; entry = 0 } }
-operands_in (REF rank) = record { bank = record { rank = rank; group = 0; bank = 0 }; row = 0; column = 0; source = record { core = 0; entry = 0 } }
+operands_in (PREA rank) =
+    record {
+      bank = record { rank = rank; group = 0; bank = 0 };
+      row = 0;
+      column = 0;
+      source = record { core = 0; entry = 0 };
+    }
+operands_in (REF rank) =
+    record {
+      bank = record { rank = rank; group = 0; bank = 0 };
+      row = 0;
+      column = 0;
+      source = record { core = 0; entry = 0 };
+    }
 
 -- the numbers of a row are those of a usual machine and trace
 abbrev pub IsUsual : IssuedCommand → Type 0

@@ -26,7 +26,8 @@ extreme_cell direction found =
 
 -- what a run has of a measure, and how that has changed
 abbrev pub measured_cell : Measure → RunStats → RunStats → Cell
-measured_cell measure base run = record { value = value_of measure run; change = change_of (value_of measure base) (value_of measure run) }
+measured_cell measure base run =
+    record { value = value_of measure run; change = change_of (value_of measure base) (value_of measure run) }
 
 -- what a run has of a measure, and how that has changed; of a core that changed most, its number and its own change
 unfoldable pub cell_of : Measure → RunStats → RunStats → Cell

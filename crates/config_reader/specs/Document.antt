@@ -29,8 +29,8 @@ abbrev pub draft_values : Draft → Values
 draft_values d =
     values_from (number_in (table_view d.numbers.table.now)) d.fields.items d.overrides.items d.ends_drained
 
--- what the keys say: the numbers are tested one after the other, with the order of the fields among them; then come what
--- ends the run and the latencies that links have of their own, and a key that no configuration has is refused
+-- what the keys say: the numbers are tested one after the other, with the order of the fields among them; then come
+-- what ends the run and the latencies that links have of their own, and a key that no configuration has is refused
 unfoldable pub keys_of : Members → Result Values Fault
 keys_of ms = do
   _ ← numbers_of ms numbers_before_fields

@@ -2,13 +2,13 @@
 use Rattle.std.proofs.Common.{◌≡◌, ℕ, zero, suc, ◌+◌, ◌-◌, ◌<◌, ◌≤◌, Bool, true, false, cond, not, ◌&&◌, ◌||◌, eqb, List, [], ◌∷◌, ◌++◌, length, take, Option, Some, None, refl, sym, ap, ap₂, ◌∙◌, add-one, arith, ⊎_elim}
 use Rattle.std.specs.Prelude.{slice_get, count_by, option_and_then}
 use Rattle.std.specs.Option.{IfSome, option_to_list}
-use Rattle.std.specs.List.{AllByRecursion as Each, filter_map, prefix_len, range_with_len}
+use Rattle.std.specs.List.{AllByRecursion as Each, filter_map, range_with_len}
 use Rattle.std.proofs.Math.Seq.{take-append_seam, take-length}
-use Rattle.std.proofs.lemmas.Bool.{cases_lt, lt-ltb, lt-leb, le-leb, ne_eqb}
+use Rattle.std.proofs.lemmas.Bool.{cases_lt, lt-ltb, ne_eqb}
 use Rattle.std.proofs.lemmas.List.Elements.{filter_map-append}
 use Rattle.std.proofs.lemmas.List.Sums.{sum_by-append}
 use Rattle.sim_base.specs.declared.config.Config.{Config}
-use Rattle.sim_base.specs.Counts.{is_read, replied_entry, is_unissued_after, issue_cycle, one_if}
+use Rattle.sim_base.specs.Counts.{is_read, replied_entry, issue_cycle, one_if}
 use Rattle.sim_base.specs.Access.{is_access}
 use Rattle.sim_base.specs.History.{below, request, request_of, issued_before, requests_between, requests_in, core_messages}
 use Rattle.sim_base.specs.Places.{place_of}
@@ -26,14 +26,13 @@ use Rattle.sim_base.proofs.Grows.{issued_before-push}
 use Rattle.cpu_trace.specs.NextMemory.{IsPlainBetween}
 use Rattle.cpu_trace.specs.declared.entries.MemoryEntry.{MemoryEntry}
 use Rattle.statistics.specs.declared.final_state.Credits.{Credits}
-use Rattle.statistics.proofs.CoreCounts.{issued_before-take-le, issue_cycle-push, issue_cycle-prefix_len}
-use Rattle.statistics.proofs.Lists.{take-push}
+use Rattle.statistics.proofs.CoreCounts.{issued_before-take-le, issue_cycle-push, issue_cycle-last}
 use Rattle.core_window.specs.declared.outstanding.OutstandingRead.{OutstandingRead}
 use Rattle.core_window.specs.Inside.{credits_now}
 use Rattle.core_window.specs.Stands.{FollowsItsEntry, credits_had, credits_spent}
 use Rattle.core_window.specs.OneCycle.{IsAmong, IsIssued, reads_issued, requests_issued, less_credit, credit_after_entry, credit_after}
 use Rattle.core_window.specs.Outstanding.{is_read_in, is_read_at, is_answered, outstanding_read, outstanding_reads}
-use Rattle.core_window.proofs.Ranges.{range-add, filter_map_range-more, filter_map_range-same, filter_map_range-none, prefix_len_range}
+use Rattle.core_window.proofs.Ranges.{range-add, filter_map_range-more, filter_map_range-same, filter_map_range-none}
 use Rattle.sim_base.proofs.Requested.{requests_between_none, requests_between_more}
 use Rattle.core_window.proofs.Segments.{request_at, one_of_segment}
 
@@ -52,21 +51,6 @@ unanswered steps (m ∷ mail) h entry l = ap₂ (λ a b. a || b) (by m.payload h
     by (payload.Reply e) k = ne_eqb entry e (λ same. omega (arith, issued_before-take-le steps m.arrival))
     by (payload.Request r) k = refl
     by (payload.Credit w e) k = refl
-
--- an entry that issues in the last cycle
-issue_cycle-last : (steps : List CoreStep) (core_step : CoreStep) (entry : ℕ) → issued_before steps ≤ entry → entry < issued_before steps + core_step.issued → issue_cycle (steps ++ core_step ∷ []) entry ≡ length steps
-unfolding is_unissued_after
-issue_cycle-last steps core_step entry l b =
-    let after = steps ++ core_step ∷ [] in
-    let n = length steps in
-    let p = is_unissued_after after entry in
-    let z : (k : ℕ) → 0 + k ≡ k = λ k. omega arith in
-    let all : take (n + 1) after ≡ after = ap (λ k. take k after) (sym (length-push_suc steps core_step ∙ sym (add-one n))) ∙ take-length after in
-    issue_cycle-prefix_len after entry
-    ∙ ap (λ k. prefix_len p (below k)) (length-push_suc steps core_step)
-    ∙ prefix_len_range p 0 (suc n) n (omega arith)
-    (λ k j. ap p (z k) ∙ le-leb (issued_before (take (k + 1) after)) entry (omega (arith, ap issued_before (take-push steps core_step (k + 1) (omega arith)), issued_before-take-le steps (k + 1))))
-    (ap p (z n) ∙ lt-leb (issued_before (take (n + 1) after)) entry (omega (arith, ap issued_before all, issued_before-push steps core_step)))
 
 -- an entry that was issued before waits as before
 outstanding_read-kept : (trace : List Entry) (steps : List CoreStep) (core_step : CoreStep) (mail : List Message) (entry : ℕ) → entry < issued_before steps
@@ -90,7 +74,7 @@ outstanding_read-new : (trace : List Entry) (steps : List CoreStep) (core_step :
     → option_to_list (outstanding_read trace (steps ++ core_step ∷ []) mail e.number) ≡ reads_issued (Some e) (length steps)
 unfolding outstanding_read
 outstanding_read-new trace steps core_step mail e follows l b at =
-    ap₂ (λ o n. waits o (is_answered mail e.number) n) at (issue_cycle-last steps core_step e.number l b)
+    ap₂ (λ o n. waits o (is_answered mail e.number) n) at (issue_cycle-last steps core_step e.number l (omega (arith, b, issued_before-push steps core_step)))
     ∙ ap (λ a. waits (Some e.entry) a (length steps)) (unanswered steps mail follows e.number l)
     ∙ by (is_read e.entry)
   where

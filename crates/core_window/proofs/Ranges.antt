@@ -1,7 +1,7 @@
 -- Numbers in a core_step, and what is found among them.
-use Rattle.std.proofs.Common.{◌≡◌, ℕ, zero, suc, ◌+◌, ◌<◌, Bool, true, false, cond, [], ◌∷◌, ◌++◌, Option, None, refl, sym, ap, ap₂, ◌∙◌, add-zero, zero-add, arith}
+use Rattle.std.proofs.Common.{◌≡◌, ℕ, zero, suc, ◌+◌, ◌<◌, [], ◌∷◌, ◌++◌, Option, None, refl, sym, ap, ap₂, ◌∙◌, add-zero, zero-add, arith}
 use Rattle.std.specs.Option.{option_to_list}
-use Rattle.std.specs.List.{filter_map, prefix_len, range_with_len}
+use Rattle.std.specs.List.{filter_map, range_with_len}
 use Rattle.std.proofs.lemmas.List.Elements.{filter_map-append}
 use Rattle.sim_base.proofs.Below.{range_more}
 use Rattle.sim_base.proofs.Lists.{cons_option-none}
@@ -31,15 +31,3 @@ filter_map_range-none f a (suc n) h =
     filter_map_range-more f a n ∙ ap₂ (λ x y. x ++ option_to_list y) (filter_map_range-none f a n (λ k l. h k (omega arith))) (h n (omega arith))
 
 -- where the first m numbers of a range pass a test, and the next does not, the front that passes has length m
-pub prefix_len_range : (p : ℕ → Bool) (a n m : ℕ) → m < n → ((k : ℕ) → k < m → p (a + k) ≡ true) → p (a + m) ≡ false → prefix_len p (range_with_len a n) ≡ m
-prefix_len_range p a zero m l before here = absurd (omega arith)
-prefix_len_range p a (suc n) zero l before here =
-    let e : a + 0 ≡ a = omega arith in
-    ap (λ b. cond b (1 + prefix_len p (range_with_len (a + 1) n)) 0) (ap p (sym e) ∙ here)
-prefix_len_range p a (suc n) (suc m) l before here =
-    let e0 : a + 0 ≡ a = omega arith in
-    let e1 : a + 1 + m ≡ a + suc m = omega arith in
-    let e2 : 1 + m ≡ suc m = omega arith in
-    ap (λ b. cond b (1 + prefix_len p (range_with_len (a + 1) n)) 0) (ap p (sym e0) ∙ before 0 (omega arith))
-    ∙ ap (λ k. 1 + k) (prefix_len_range p (a + 1) n m (omega arith) (λ k j. let e : a + 1 + k ≡ a + suc k = omega arith in ap p e ∙ before (suc k) (omega arith)) (ap p e1 ∙ here))
-    ∙ e2

@@ -44,9 +44,9 @@ use Rattle.core_window.proofs.Stepping.{follows-read, replies-le}
 use Rattle.core_window.proofs.Issuing.{same_credits}
 
 -- the room that the counts of replies have
-pub reply-room : (s : Config) (core : ℕ) (trace : List Entry) (steps : List CoreStep) (mail : List Message) (a : CoreView) (entry : ℕ) → StandsAt s core trace steps mail a → a.now < 2 ^ 62 → MayTakeReply a entry
+pub reply-room : (s : Config) (core : ℕ) (trace : List Entry) (steps : List CoreStep) (mail : List Message) (a : CoreView) → StandsAt s core trace steps mail a → a.now < 2 ^ 62 → MayTakeReply a
 unfolding core_stats replies
-reply-room s core trace steps mail a entry h l =
+reply-room s core trace steps mail a h l =
     let idle : CoreStep = record { retired = 0; issued = 0 } in
     let after = steps ++ idle ∷ [] in
     let p = replies-push steps idle mail in

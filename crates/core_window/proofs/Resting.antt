@@ -14,7 +14,7 @@ use Rattle.cpu_trace.specs.declared.entries.MemoryEntry.{MemoryEntry}
 use Rattle.statistics.specs.Cores.{core_joined, core_times}
 use Rattle.statistics.specs.declared.cores.CoreStats.{CoreStats}
 use Rattle.core_window.specs.Inside.{StandsAt, IsStanding, IsLike, Does}
-use Rattle.core_window.specs.Rests.{idle_step, Rests, IsFirstAct, NeverActs, MayRest}
+use Rattle.core_window.specs.Rests.{idle_step, Rests, IsFirstAct, NeverActs, HasSomePast}
 use Rattle.core_window.proofs.Stretching.{steady-none, steady-more, none_issues, idle-like}
 use Rattle.core_window.proofs.Working.{like-self, issued_of}
 use Rattle.core_window.proofs.Retiring.{retires-by}
@@ -84,7 +84,7 @@ idle-stands s core trace steps mail a why memory cycle_work h (suc n) = by (idle
           ap (λ r. r ++ (step s core trace r mail).0 ∷ []) d.1 ∙ ap (λ (x : CoreStep × Stop). before ++ x.0 ∷ []) t.does ∙ replicate-more n idle_step steps,
         )
 
-pub rest-standing : (a : CoreView) → MayRest a → IsStanding a
+pub rest-standing : (a : CoreView) → HasSomePast a → IsStanding a
 rest-standing a may = record { s = may.s; core = may.core; trace = may.trace; steps = may.steps; mail = may.mail; stands = stands-at may.s may.core may.trace may.steps may.mail a may.stands }
 
 pub step_is_idle : (core_step : CoreStep) → core_step.retired ≡ 0 → core_step.issued ≡ 0 → core_step ≡ idle_step

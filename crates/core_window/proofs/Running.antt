@@ -1,37 +1,34 @@
 -- A core over many cycles.
-use Rattle.std.proofs.Common.{get_or, ◌≡◌, ℕ, zero, suc, ◌+◌, ◌-◌, ◌<◌, ◌≤◌, Bool, true, false, ◌&&◌, cond, eqb, List, [], ◌∷◌, ◌++◌, length, take, drop, Some, refl, sym, ap, ap₂, subst, ◌∙◌, add-zero, append_assoc, arith}
-use Rattle.std.specs.Prelude.{count_by, filter}
+use Rattle.std.proofs.Common.{get_or, ◌≡◌, ℕ, zero, suc, ◌+◌, ◌-◌, ◌<◌, ◌≤◌, Bool, true, false, ◌&&◌, cond, List, [], ◌∷◌, ◌++◌, length, take, drop, Some, refl, sym, ap, ap₂, subst, ◌∙◌, add-zero, append_assoc, arith}
+use Rattle.std.specs.Prelude.{filter}
 use Rattle.std.specs.List.{AllByRecursion as Each}
 use Rattle.std.proofs.Math.Seq.{take-length}
-use Rattle.std.proofs.lemmas.Bool.{lt-ltb, ne_eqb}
+use Rattle.std.proofs.lemmas.Bool.{ne_eqb}
 use Rattle.std.proofs.lemmas.List.{append-nil}
-use Rattle.std.proofs.lemmas.List.Sums.{sum_by-cons}
 use Rattle.sim_base.specs.declared.config.Config.{Config}
-use Rattle.sim_base.specs.Config.{credit_link}
 use Rattle.sim_base.specs.History.{core_messages}
 use Rattle.sim_base.specs.Machine.{core_run}
-use Rattle.sim_base.specs.Windows.{is_credit, is_credit_on, is_request_for, credit_cap, held, step}
+use Rattle.sim_base.specs.Windows.{held, step}
 use Rattle.sim_base.specs.Final.{credits_left}
 use Rattle.sim_base.specs.declared.history.CoreStep.{CoreStep}
-use Rattle.sim_base.specs.declared.message.Access.{Access}
 use Rattle.sim_base.specs.declared.message.Access.TheVariants as access
 use Rattle.sim_base.specs.declared.message.Message.{Message}
 use Rattle.sim_base.specs.declared.trace.Entry.{Entry}
 use Rattle.sim_base.proofs.Arrived.{NotBefore, NotBefore-weaker}
 use Rattle.sim_base.proofs.Ordered.{Each-weaker}
 use Rattle.sim_base.proofs.Same.{step-same}
-use Rattle.sim_base.specs.Counts.{one_if, is_reply}
+use Rattle.sim_base.specs.Counts.{is_reply}
 use Rattle.sim_base.proofs.Kept.{arrived-added}
 use Rattle.sim_base.proofs.Added.{length-push_suc}
 use Rattle.sim_base.proofs.Each.{Each-append, Each-drop}
 use Rattle.statistics.specs.Cores.{core_stats, replies_in, is_reply_in}
 use Rattle.statistics.specs.Runs.{credits_of}
 use Rattle.statistics.specs.declared.final_state.Credits.{Credits}
-use Rattle.core_window.specs.Fit.{MayCome, IsByArrival, Fit, MayRun, Runs, RunsOnto}
+use Rattle.core_window.specs.Fit.{MayCome, IsByArrival, IsFit, CanRun, RunsOver, RunsOnto}
 use Rattle.core_window.specs.Inside.{credits_now, StandsAt, IsStanding, IsReceiving, IsMidway, Sends, Advances, GoesOn}
-use Rattle.core_window.specs.Stands.{StandsFor, is_credit_from, credits_had}
+use Rattle.core_window.specs.Stands.{StandsFor}
 use Rattle.core_window.specs.Views.{CoreView}
-use Rattle.core_window.proofs.Stepping.{with_none_arrived}
+use Rattle.core_window.proofs.Stepping.{with_none_arrived, held-all}
 
 pub length-core_run : (s : Config) (core : ℕ) (trace : List Entry) (steps : List CoreStep) (mail : List Message) (n : ℕ) → length (core_run s core trace steps mail n) ≡ length steps + n
 unfolding core_run
@@ -112,28 +109,6 @@ pub underway-standing : (until : ℕ) (a b : CoreView) (x y : List Message) → 
 underway-standing until a b x y u h =
     record { s = h.s; core = h.core; trace = h.trace; steps = core_run h.s h.core h.trace h.steps h.mail (b.now - a.now); mail = h.mail; stands = (u.advances.sends h.s h.core h.trace h.steps h.mail h.stands).0 }
 
--- all of the mail came before a cycle
-held-all : (s : Config) (core : ℕ) (mail sent : List Message) (channel : ℕ) (access : Access) (until : ℕ) → Each (λ m. m.arrival < until) mail
-    → held s core mail sent channel access until ≡ credits_had s core mail channel access - count_by (λ m. is_request_for channel access m.payload) sent
-unfolding held
-held-all s core mail sent channel access until h =
-    ap (λ n. credit_cap s access + n - count_by (λ (m : Message). is_request_for channel access m.payload) sent) (same mail h)
-  where
-    link : ℕ
-    link = credit_link s core channel
-
-    and_true : (b : Bool) → (b && true) ≡ b
-    and_true true = refl
-    and_true false = refl
-
-    same : (ms : List Message) → Each (λ m. m.arrival < until) ms → count_by (is_credit_on link access until) ms ≡ count_by (is_credit_from link access) ms
-    same [] k = refl
-    same (m ∷ ms) k =
-        sum_by-cons (λ (x : Message). one_if (is_credit_on link access until x)) m ms
-        ∙ ap₂ (λ b n. one_if (eqb m.link link && is_credit access m.payload && b) + n) (lt-ltb m.arrival until k.0) (same ms k.1)
-        ∙ ap (λ b. one_if b + count_by (is_credit_from link access) ms) (and_true (eqb m.link link && is_credit access m.payload))
-        ∙ sym (sum_by-cons (λ (x : Message). one_if (is_credit_from link access x)) m ms)
-
 credits_of-now : (s : Config) (core : ℕ) (trace : List Entry) (steps : List CoreStep) (mail : List Message) (channel : ℕ) → Each (λ m. m.arrival < length steps) mail
     → credits_of s core trace steps mail channel ≡ credits_now s core trace steps mail channel
 unfolding credits_of credits_left
@@ -188,7 +163,7 @@ stands-for s core trace steps mail a h before =
 abbrev pub HasTaken : CoreView → ℕ → ℕ → List Message → ℕ → CoreView → List Message → Type 0
 HasTaken a from until inbox taken b sent =
     (s : Config) (core : ℕ) (trace : List Entry) (steps : List CoreStep) (mail : List Message)
-    → StandsFor s core trace steps mail a → Fit s core trace steps mail from until inbox
+    → StandsFor s core trace steps mail a → IsFit s core trace steps mail from until inbox
     → IsMidway s core trace steps mail from until inbox taken b sent
 
 -- what a core that takes its inbox stands for, whatever it stood for, when what it sent is put behind what a list held
@@ -287,7 +262,7 @@ takes s core trace steps mail from until inbox i d e y m mid at stands =
 
 -- a core may take the next message of its inbox
 pub may_take : (s : Config) (core : ℕ) (trace : List Entry) (steps : List CoreStep) (mail : List Message) (from until : ℕ) (inbox : List Message) (i : ℕ) (d : CoreView) (y : List Message) (m : Message)
-    → IsMidway s core trace steps mail from until inbox i d y → IsAt inbox i m → d.now ≡ m.arrival → Fit s core trace steps mail from until inbox
+    → IsMidway s core trace steps mail from until inbox i d y → IsAt inbox i m → d.now ≡ m.arrival → IsFit s core trace steps mail from until inbox
     → MayCome s core trace (core_run s core trace steps (mail ++ inbox) (d.now - from)) (mail ++ take i inbox) m
 may_take s core trace steps mail from until inbox i d y m mid at now fit =
     let split : inbox ≡ take i inbox ++ m ∷ drop (i + 1) inbox = sym (take-drop-all inbox i) ∙ ap (λ l. take i inbox ++ l) at.rest in
@@ -309,7 +284,7 @@ has_taken-first a from until inbox at l s core trace steps mail h fit =
 pub taking-first : (a : CoreView) (from until : ℕ) (inbox held : List Message) → a.now ≡ from → from ≤ until → IsTaking a from until inbox 0 a held held
 taking-first a from until inbox held at l = record { sent = []; behind = sym (append-nil held); taking = has_taken-first a from until inbox at l }
 
-pub taking-standing : (a : CoreView) (from until : ℕ) (inbox : List Message) (i : ℕ) (b : CoreView) (w x : List Message) → MayRun a from until inbox → IsTaking a from until inbox i b w x → IsStanding b
+pub taking-standing : (a : CoreView) (from until : ℕ) (inbox : List Message) (i : ℕ) (b : CoreView) (w x : List Message) → CanRun a from until inbox → IsTaking a from until inbox i b w x → IsStanding b
 taking-standing a from until inbox i b w x may h =
     record {
       s = may.s;
@@ -320,14 +295,14 @@ taking-standing a from until inbox i b w x may h =
       stands = (h.taking may.s may.core may.trace may.steps may.mail may.stands may.fit).stands;
     }
 
-pub taking-order : (a : CoreView) (from until : ℕ) (inbox : List Message) (i : ℕ) (b : CoreView) (w x : List Message) (m : Message) → MayRun a from until inbox → IsTaking a from until inbox i b w x → IsAt inbox i m → b.now ≤ m.arrival
+pub taking-order : (a : CoreView) (from until : ℕ) (inbox : List Message) (i : ℕ) (b : CoreView) (w x : List Message) (m : Message) → CanRun a from until inbox → IsTaking a from until inbox i b w x → IsAt inbox i m → b.now ≤ m.arrival
 taking-order a from until inbox i b w x m may h at =
     Each-at (λ (n : Message). b.now ≤ n.arrival) inbox i m (h.taking may.s may.core may.trace may.steps may.mail may.stands may.fit).others at
 
-pub taking-within : (a : CoreView) (from until : ℕ) (inbox : List Message) (i : ℕ) (m : Message) → MayRun a from until inbox → IsAt inbox i m → m.arrival < until
+pub taking-within : (a : CoreView) (from until : ℕ) (inbox : List Message) (i : ℕ) (m : Message) → CanRun a from until inbox → IsAt inbox i m → m.arrival < until
 taking-within a from until inbox i m may at = Each-at (λ (n : Message). n.arrival < until) inbox i m (Each-drop (λ (n : Message). n.arrival < until) inbox i may.fit.until_then) at
 
-pub taking-until : (a : CoreView) (from until : ℕ) (inbox : List Message) (i : ℕ) (b : CoreView) (w x : List Message) → MayRun a from until inbox → IsTaking a from until inbox i b w x → b.now ≤ until
+pub taking-until : (a : CoreView) (from until : ℕ) (inbox : List Message) (i : ℕ) (b : CoreView) (w x : List Message) → CanRun a from until inbox → IsTaking a from until inbox i b w x → b.now ≤ until
 taking-until a from until inbox i b w x may h = (h.taking may.s may.core may.trace may.steps may.mail may.stands may.fit).until_then
 
 -- up to the cycle of the next message
@@ -347,7 +322,7 @@ taking-on a from until inbox i b d w x y m start l at h adv =
       taking = has_taken-on a from until inbox i b d h.sent adv.sent m start l at h.taking adv.sends;
     }
 
-pub taking-receives : (a : CoreView) (from until : ℕ) (inbox : List Message) (i : ℕ) (d : CoreView) (w y : List Message) (m : Message) → MayRun a from until inbox → IsTaking a from until inbox i d w y
+pub taking-receives : (a : CoreView) (from until : ℕ) (inbox : List Message) (i : ℕ) (d : CoreView) (w y : List Message) (m : Message) → CanRun a from until inbox → IsTaking a from until inbox i d w y
     → IsAt inbox i m → d.now ≡ m.arrival → IsReceiving d m
 taking-receives a from until inbox i d w y m may h at now =
     let mid = h.taking may.s may.core may.trace may.steps may.mail may.stands may.fit in
@@ -386,7 +361,7 @@ drop-all (x ∷ xs) = drop-all xs
 
 -- all messages are taken
 has_taken-last : (a : CoreView) (from until : ℕ) (inbox : List Message) (b d : CoreView) (x y : List Message) → a.now ≡ from → b.now ≤ until
-    → HasTaken a from until inbox (length inbox) b x → Sends (until - b.now) b d y → Runs a from until inbox d (x ++ y)
+    → HasTaken a from until inbox (length inbox) b x → Sends (until - b.now) b d y → RunsOver a from until inbox d (x ++ y)
 has_taken-last a from until inbox b d x y start l h adv s core trace steps mail st fit =
     let n = length inbox in
     let before = h s core trace steps mail st fit in

@@ -101,11 +101,11 @@ stats-push s core trace steps mail core_step why memory past cycle_work =
     ∙ ap (λ w. core_cycle_with trace steps core_step w (replies_in (length steps) mail)) (sym (ap (λ t. t.1) cycle_work.does)))
     ∙ sym (core_stats-push s core trace steps core_step mail (follows-read steps core_step mail past.arrived past.follows))
 
--- all of the mail counts
-pub held-now : (s : Config) (core : ℕ) (mail sent : List Message) (channel : ℕ) (access : Access) (now : ℕ) → Each (λ m. m.arrival ≤ now) mail
-    → held s core mail sent channel access (now + 1) ≡ credits_had s core mail channel access - count_by (λ m. is_request_for channel access m.payload) sent
+-- all of the mail came before a cycle
+pub held-all : (s : Config) (core : ℕ) (mail sent : List Message) (channel : ℕ) (access : Access) (until : ℕ) → Each (λ m. m.arrival < until) mail
+    → held s core mail sent channel access until ≡ credits_had s core mail channel access - count_by (λ m. is_request_for channel access m.payload) sent
 unfolding held
-held-now s core mail sent channel access now h =
+held-all s core mail sent channel access until h =
     ap (λ n. credit_cap s access + n - count_by (λ (m : Message). is_request_for channel access m.payload) sent) (same mail h)
   where
     link : ℕ
@@ -115,13 +115,19 @@ held-now s core mail sent channel access now h =
     and_true true = refl
     and_true false = refl
 
-    same : (ms : List Message) → Each (λ m. m.arrival ≤ now) ms → count_by (is_credit_on link access (now + 1)) ms ≡ count_by (is_credit_from link access) ms
+    same : (ms : List Message) → Each (λ m. m.arrival < until) ms → count_by (is_credit_on link access until) ms ≡ count_by (is_credit_from link access) ms
     same [] k = refl
     same (m ∷ ms) k =
-        sum_by-cons (λ (x : Message). one_if (is_credit_on link access (now + 1) x)) m ms
-        ∙ ap₂ (λ b n. one_if (eqb m.link link && is_credit access m.payload && b) + n) (lt-ltb m.arrival (now + 1) (omega (arith, k.0))) (same ms k.1)
+        sum_by-cons (λ (x : Message). one_if (is_credit_on link access until x)) m ms
+        ∙ ap₂ (λ b n. one_if (eqb m.link link && is_credit access m.payload && b) + n) (lt-ltb m.arrival until k.0) (same ms k.1)
         ∙ ap (λ b. one_if b + count_by (is_credit_from link access) ms) (and_true (eqb m.link link && is_credit access m.payload))
         ∙ sym (sum_by-cons (λ (x : Message). one_if (is_credit_from link access x)) m ms)
+
+-- all of the mail counts
+pub held-now : (s : Config) (core : ℕ) (mail sent : List Message) (channel : ℕ) (access : Access) (now : ℕ) → Each (λ m. m.arrival ≤ now) mail
+    → held s core mail sent channel access (now + 1) ≡ credits_had s core mail channel access - count_by (λ m. is_request_for channel access m.payload) sent
+held-now s core mail sent channel access now h =
+    held-all s core mail sent channel access (now + 1) (Each-weaker (λ (m : Message). m.arrival ≤ now) (λ m. m.arrival < now + 1) (λ m k. omega arith) mail h)
 
 -- a memory entry issues only with a credit
 paid-entry : (s : Config) (core : ℕ) (trace : List Entry) (steps : List CoreStep) (mail : List Message) (channel : ℕ) (kind : Access) (entry : Entry)
@@ -199,7 +205,7 @@ past-push s core trace steps mail core_step why memory past cycle_work =
     let r = retired_before-push steps core_step in
     let row_is : (step s core trace steps mail).0 ≡ core_step = ap (λ t. t.0) cycle_work.does in
     let within : issued_before steps + core_step.issued ≤ length trace = subst (λ (x : CoreStep). issued_before steps + x.issued ≤ length trace) row_is (issues-le s core trace steps mail past.issued) in
-    let most : core_step.retired ≤ issued_before steps - retired_before steps = subst (λ n. n ≤ issued_before steps - retired_before steps) retired_is (retires-le s trace steps mail) in
+    let most : core_step.retired ≤ issued_before steps - retired_before steps = omega (arith, retired_is, retires-le s trace steps mail) in
     record {
       fits = past.fits;
       issued = omega arith;

@@ -1,8 +1,8 @@
 -- Messages that may arrive at a core.
 --     MayCome s core trace steps mail m      a message may come in the cycle after these steps, and after this mail
---     Fit s core trace steps mail from until inbox      these messages may come in a span of cycles
---     MayRun view from until inbox      these messages may come in a span of cycles to a core as it stands
---     Runs before from until inbox after sent      what a core does and sends in a span in which these messages come
+--     IsFit s core trace steps mail from until inbox      these messages may come in a span of cycles
+--     CanRun view from until inbox      these messages may come in a span of cycles to a core as it stands
+--     RunsOver before from until inbox after sent      what a core does and sends in a span in which messages come
 --     RunsOnto before from until inbox after held holds      what a core does in a span, and puts behind a list
 use Rattle.std.specs.Prelude.{◌≡◌, ℕ, ◌+◌, ◌-◌, ◌<◌, ◌≤◌, true, false, List, [], ◌∷◌, ◌++◌}
 use Rattle.std.specs.List.{AllByRecursion as Each}
@@ -28,7 +28,8 @@ pub record IsAwaited (trace : List Entry) (steps : List CoreStep) (mail : List M
   pub is_first : is_answered mail entry ≡ false
 
 -- a credit comes on the link of a channel, and the core does not hold all its credits for that channel
-pub record IsOutstandingCredit (s : Config) (core : ℕ) (trace : List Entry) (steps : List CoreStep) (mail : List Message) (link : ℕ) (access : Access) : Type 0 where
+pub record IsOutstandingCredit (s : Config) (core : ℕ) (trace : List Entry) (steps : List CoreStep)
+    (mail : List Message) (link : ℕ) (access : Access) : Type 0 where
   pub channel : ℕ
   pub exists : channel < s.channels
   pub on_its_link : link ≡ credit_link s core channel
@@ -38,7 +39,8 @@ pub record IsOutstandingCredit (s : Config) (core : ℕ) (trace : List Entry) (s
 -- what a message may bring in the cycle after these steps, after this mail: a reply or a credit
 abbrev pub MayCarry : Config → ℕ → List Entry → List CoreStep → List Message → ℕ → Payload → Type 0
 MayCarry s core trace steps mail link (payload.Reply entry) = IsAwaited trace steps mail entry
-MayCarry s core trace steps mail link (payload.Credit access entry) = IsOutstandingCredit s core trace steps mail link access
+MayCarry s core trace steps mail link (payload.Credit access entry) =
+    IsOutstandingCredit s core trace steps mail link access
 MayCarry s core trace steps mail link (payload.Request r) = ⊥
 
 -- a message may come in the cycle after these steps, after this mail
@@ -52,7 +54,8 @@ IsByArrival (m ∷ ms) = Each (λ n. m.arrival ≤ n.arrival) ms × IsByArrival 
 
 -- Messages that may arrive at a core in the cycles from `from` up to `until`, where it did these steps and had this
 -- mail.
-pub record Fit (s : Config) (core : ℕ) (trace : List Entry) (steps : List CoreStep) (mail : List Message) (from until : ℕ) (inbox : List Message) : Type 0 where
+pub record IsFit (s : Config) (core : ℕ) (trace : List Entry) (steps : List CoreStep) (mail : List Message)
+    (from until : ℕ) (inbox : List Message) : Type 0 where
   -- the messages arrive in these cycles: the core would not see a later one, and an earlier one would change what it
   -- did
   pub from_then : Each (λ m. from ≤ m.arrival) inbox
@@ -65,28 +68,30 @@ pub record Fit (s : Config) (core : ℕ) (trace : List Entry) (steps : List Core
       → MayCome s core trace (core_run s core trace steps (mail ++ inbox) (m.arrival - from)) (mail ++ before) m
 
 -- a core stands for some steps and messages, after which these messages may arrive in a span
-pub record MayRun (view : CoreView) (from until : ℕ) (inbox : List Message) : Type 0 where
+pub record CanRun (view : CoreView) (from until : ℕ) (inbox : List Message) : Type 0 where
   pub s : Config
   pub core : ℕ
   pub trace : List Entry
   pub steps : List CoreStep
   pub mail : List Message
   pub stands : StandsFor s core trace steps mail view
-  pub fit : Fit s core trace steps mail from until inbox
+  pub fit : IsFit s core trace steps mail from until inbox
 
 -- A core goes over a span of cycles, in which these messages arrive, from one state to another, and sends these
 -- messages. For each past that the core may have, after which the messages may arrive, it then stands for the longer
 -- run, and has sent what that run sends more.
-abbrev pub Runs : CoreView → ℕ → ℕ → List Message → CoreView → List Message → Type 0
-Runs before from until inbox after sent =
+abbrev pub RunsOver : CoreView → ℕ → ℕ → List Message → CoreView → List Message → Type 0
+RunsOver before from until inbox after sent =
     (s : Config) (core : ℕ) (trace : List Entry) (steps : List CoreStep) (mail : List Message)
-    → StandsFor s core trace steps mail before → Fit s core trace steps mail from until inbox
+    → StandsFor s core trace steps mail before → IsFit s core trace steps mail from until inbox
     → StandsFor s core trace (core_run s core trace steps (mail ++ inbox) (until - from)) (mail ++ inbox) after
-    × (core_messages s core trace (core_run s core trace steps (mail ++ inbox) (until - from)) ≡ core_messages s core trace steps ++ sent)
+    × (core_messages s core trace (core_run s core trace steps (mail ++ inbox) (until - from))
+    ≡ core_messages s core trace steps ++ sent)
 
 -- a core goes over a span of cycles, in which these messages arrive, and what it sends is put behind what a list held
 -- before
-pub record RunsOnto (before : CoreView) (from until : ℕ) (inbox : List Message) (after : CoreView) (held holds : List Message) : Type 0 where
+pub record RunsOnto (before : CoreView) (from until : ℕ) (inbox : List Message) (after : CoreView)
+    (held holds : List Message) : Type 0 where
   pub sent : List Message
   pub behind : holds ≡ held ++ sent
-  pub runs : Runs before from until inbox after sent
+  pub runs : RunsOver before from until inbox after sent

@@ -39,7 +39,8 @@ abbrev pub core_arrived : List CoreStep → List Message → CoreStats
 core_arrived steps mail = only_replies steps (replies_in (length steps) mail)
 
 -- a core did what these steps say, and had these messages in those cycles or in the one after them, where it stands
-pub record StandsAt (s : Config) (core : ℕ) (trace : List Entry) (steps : List CoreStep) (mail : List Message) (view : CoreView) : Type 0 where
+pub record StandsAt (s : Config) (core : ℕ) (trace : List Entry) (steps : List CoreStep) (mail : List Message)
+    (view : CoreView) : Type 0 where
   pub config : view.config ≡ s
   pub number : view.core ≡ core
   pub entries : view.trace ≡ trace
@@ -76,7 +77,8 @@ pub record Advances (n : ℕ) (a : CoreView) (before : List Message) (b : CoreVi
   pub sends : Sends n a b sent
 
 -- a core goes on by some cycles, at most up to `until`, while no further message comes
-pub record GoesOn (until : ℕ) (a : CoreView) (before : List Message) (b : CoreView) (after : List Message) : Type 0 where
+pub record GoesOn (until : ℕ) (a : CoreView) (before : List Message) (b : CoreView) (after : List Message)
+    : Type 0 where
   pub later : a.now < b.now
   pub until_then : b.now ≤ until
   pub advances : Advances (b.now - a.now) a before b after
@@ -100,7 +102,8 @@ pub record IsReceiving (view : CoreView) (m : Message) : Type 0 where
 
 -- within a span a core has taken the first `taken` messages of its inbox, and sent these; no other comes before the
 -- cycle where it stands
-pub record IsMidway (s : Config) (core : ℕ) (trace : List Entry) (steps : List CoreStep) (mail : List Message) (from until : ℕ) (inbox : List Message) (taken : ℕ) (view : CoreView) (sent : List Message) : Type 0 where
+pub record IsMidway (s : Config) (core : ℕ) (trace : List Entry) (steps : List CoreStep) (mail : List Message)
+    (from until : ℕ) (inbox : List Message) (taken : ℕ) (view : CoreView) (sent : List Message) : Type 0 where
   pub since : from ≤ view.now
   pub stands : StandsAt s core trace (core_run s core trace steps (mail ++ inbox) (view.now - from))
       (mail ++ take taken inbox) view
@@ -109,8 +112,8 @@ pub record IsMidway (s : Config) (core : ℕ) (trace : List Entry) (steps : List
   pub others : Each (λ m. view.now ≤ m.arrival) (drop taken inbox)
   pub until_then : view.now ≤ until
 
--- one core may do what another may: they may differ in the cycle where they stand, and in what they counted, except for
--- the entries that they issued and retired
+-- one core may do what another may: they may differ in their number, in the cycle where they stand, and in what they
+-- counted, except for the entries that they issued and retired
 pub record IsLike (a v : CoreView) : Type 0 where
   pub config : v.config ≡ a.config
   pub entries : v.trace ≡ a.trace

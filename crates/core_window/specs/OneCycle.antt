@@ -25,7 +25,7 @@ use Rattle.statistics.specs.Cores.{unanswered_cycle}
 use Rattle.statistics.specs.declared.cores.CoreStats.{CoreStats}
 use Rattle.statistics.specs.declared.final_state.Credits.{Credits}
 
--- a Read or Write stands at a number, or the trace ends there
+-- the first Read or Write from `from` on stands at `number`, or there is none and the trace ends there
 pub record IsNextOrEnd (trace : List Entry) (from number : ℕ) : Type 0 where
   pub is_from : from ≤ number
   pub is_within : number ≤ length trace
@@ -92,7 +92,8 @@ cycle_counts core_step why memory before len now =
     unanswered_cycle core_step why reads writes finish
 
 -- the cause for which a core issues no more than m entries, and that it has none before
-pub record IsLast (s : Config) (core : ℕ) (trace : List Entry) (inbox sent : List Message) (now number retired_by_end first_at second_at : ℕ) (lacks : Bool) (m : ℕ) (why : Stop) : Type 0 where
+pub record IsLast (s : Config) (core : ℕ) (trace : List Entry) (inbox sent : List Message)
+    (now number retired_by_end first_at second_at : ℕ) (lacks : Bool) (m : ℕ) (why : Stop) : Type 0 where
   pub count : first_stop s core trace inbox sent now number retired_by_end ≡ m
   pub cause : stop_after s core trace inbox sent now number retired_by_end m ≡ Some why
   pub window : number + m ≤ retired_by_end + s.window
@@ -101,7 +102,8 @@ pub record IsLast (s : Config) (core : ℕ) (trace : List Entry) (inbox sent : L
 
 -- a core that issued entries up to a number, and had retired `retired_by_end` of them, may issue from there on: the
 -- memory entries ahead are known, and whether it lacks a credit for the first of them
-pub record MayIssue (s : Config) (core : ℕ) (trace : List Entry) (inbox sent : List Message) (now number retired_by_end first_at second_at : ℕ) (lacks : Bool) : Type 0 where
+pub record MayIssue (s : Config) (core : ℕ) (trace : List Entry) (inbox sent : List Message)
+    (now number retired_by_end first_at second_at : ℕ) (lacks : Bool) : Type 0 where
   pub within : number ≤ length trace
   pub retired : retired_by_end ≤ number
   pub window : number ≤ retired_by_end + s.window
@@ -132,7 +134,8 @@ credit_after s channel None c = c
 credit_after s channel (Some e) c = credit_after_entry s channel e.entry c
 
 -- what a core does in the cycle after these steps, with this mail
-pub record IsWork (s : Config) (core : ℕ) (trace : List Entry) (steps : List CoreStep) (mail : List Message) (core_step : CoreStep) (why : Stop) (memory : Option MemoryEntry) : Type 0 where
+pub record IsWork (s : Config) (core : ℕ) (trace : List Entry) (steps : List CoreStep) (mail : List Message)
+    (core_step : CoreStep) (why : Stop) (memory : Option MemoryEntry) : Type 0 where
   pub does : step s core trace steps mail ≡ (core_step, why)
   pub window : issued_before steps + core_step.issued ≤ retired_before steps + core_step.retired + s.window
   pub issues : IsIssued trace (issued_before steps) core_step.issued memory

@@ -29,7 +29,9 @@ is_answered mail entry = list_any (λ m. is_reply_to entry m.payload) mail
 -- an entry that was issued, if it is a Read that has no reply, with the cycle in which it was issued
 unfoldable pub outstanding_read : List Entry → List CoreStep → List Message → ℕ → Option OutstandingRead
 outstanding_read trace steps mail entry =
-    if is_read_at trace entry && not (is_answered mail entry) then Some (record { entry = entry; issued = issue_cycle steps entry }) else None
+    if is_read_at trace entry && not (is_answered mail entry)
+    then Some (record { entry = entry; issued = issue_cycle steps entry })
+    else None
 
 -- the Reads that were issued and have no reply, in order
 unfoldable pub outstanding_reads : List Entry → List CoreStep → List Message → List OutstandingRead

@@ -1,5 +1,5 @@
 -- A reply that comes.
---     MayTakeReply view entry      the counts of a core have room for a reply
+--     MayTakeReply view      the counts of a core have room for a reply
 --     after_reply view read      what a core keeps after the reply to a Read
 --     TakesReplyOf entry old new      a core takes the reply to the Read of a number
 use Rattle.std.specs.Prelude.{◌≡◌, ℕ, ◌^◌, ◌+◌, ◌-◌, ◌<◌, ◌==◌, not, filter, Some}
@@ -8,7 +8,7 @@ use Rattle.core_window.specs.Views.{CoreView}
 use Rattle.core_window.specs.declared.outstanding.OutstandingRead.{OutstandingRead}
 
 -- a core can count one reply more
-pub record MayTakeReply (view : CoreView) (entry : ℕ) : Type 0 where
+pub record MayTakeReply (view : CoreView) : Type 0 where
   pub count : view.stats.replies < 2 ^ 63
   pub sum : view.stats.read_latency < 2 ^ 127
 

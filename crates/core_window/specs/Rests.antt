@@ -2,7 +2,7 @@
 --     idle_step      what a core does in a cycle in which it does nothing
 --     Rests s core trace steps mail n      a core does nothing in n cycles in which no message comes
 --     IsNextAct s core trace steps mail cycle      the first cycle in which a core acts, where no message comes
---     MayRest view      a core that stands for some steps and messages
+--     HasSomePast view      a core that stands for some steps and messages
 use Rattle.std.specs.Prelude.{◌≡◌, ℕ, ◌+◌, ◌-◌, ◌≤◌, List, ◌++◌, length, replicate, Option, Some, None}
 use Rattle.sim_base.specs.declared.config.Config.{Config}
 use Rattle.sim_base.specs.Machine.{core_run}
@@ -22,13 +22,15 @@ abbrev pub Rests : Config → ℕ → List Entry → List CoreStep → List Mess
 Rests s core trace steps mail n = core_run s core trace steps mail n ≡ steps ++ replicate n idle_step
 
 -- a core acts first in this cycle: it does nothing before, and something then
-pub record IsFirstAct (s : Config) (core : ℕ) (trace : List Entry) (steps : List CoreStep) (mail : List Message) (cycle : ℕ) : Type 0 where
+pub record IsFirstAct (s : Config) (core : ℕ) (trace : List Entry) (steps : List CoreStep) (mail : List Message)
+    (cycle : ℕ) : Type 0 where
   pub since : length steps ≤ cycle
   pub rests : (n : ℕ) → length steps + n ≤ cycle → Rests s core trace steps mail n
   pub acts : (step s core trace (core_run s core trace steps mail (cycle - length steps)) mail).0 ≡ idle_step → ⊥
 
 -- a core never acts
-pub record NeverActs (s : Config) (core : ℕ) (trace : List Entry) (steps : List CoreStep) (mail : List Message) : Type 0 where
+pub record NeverActs (s : Config) (core : ℕ) (trace : List Entry) (steps : List CoreStep) (mail : List Message)
+    : Type 0 where
   pub now : (step s core trace steps mail).0 ≡ idle_step
   pub rests : (n : ℕ) → Rests s core trace steps mail n
 
@@ -38,7 +40,7 @@ IsNextAct s core trace steps mail (Some cycle) = IsFirstAct s core trace steps m
 IsNextAct s core trace steps mail None = NeverActs s core trace steps mail
 
 -- a core stands for some steps and messages
-pub record MayRest (view : CoreView) : Type 0 where
+pub record HasSomePast (view : CoreView) : Type 0 where
   pub s : Config
   pub core : ℕ
   pub trace : List Entry

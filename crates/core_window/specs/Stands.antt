@@ -39,7 +39,8 @@ credits_spent s core trace steps channel access =
 
 -- What holds of the steps of a core, one a cycle, and of the messages that it had, those of the next cycle perhaps
 -- included.
-pub record IsPast (s : Config) (core : ℕ) (trace : List Entry) (steps : List CoreStep) (mail : List Message) : Type 0 where
+pub record IsPast (s : Config) (core : ℕ) (trace : List Entry) (steps : List CoreStep) (mail : List Message)
+    : Type 0 where
   -- a trace has at most 2^62 entries
   pub fits : length trace ≤ 2 ^ 62
   -- the core issues in order, up to the end of its trace
@@ -54,7 +55,7 @@ pub record IsPast (s : Config) (core : ℕ) (trace : List Entry) (steps : List C
   pub follows : Each (FollowsItsEntry steps) mail
   -- no Read retired without its reply
   pub done : (entry : ℕ) → entry < retired_before steps → is_read_at trace entry ≡ true → is_answered mail entry ≡ true
-  -- no more Reads were answered than were issued
+  -- the replies and the Reads that still wait for one are together no more than the entries that were issued
   pub answered : length (filter is_reply mail) + length (outstanding_reads trace steps mail) ≤ issued_before steps
   -- no credit was spent that the core did not have
   pub paid : (channel : ℕ) (access : Access)
@@ -62,7 +63,8 @@ pub record IsPast (s : Config) (core : ℕ) (trace : List Entry) (steps : List C
 
 -- A core did what these steps say, one a cycle, and had these messages in those cycles: it stands at the cycle after
 -- them.
-pub record StandsFor (s : Config) (core : ℕ) (trace : List Entry) (steps : List CoreStep) (mail : List Message) (view : CoreView) : Type 0 where
+pub record StandsFor (s : Config) (core : ℕ) (trace : List Entry) (steps : List CoreStep) (mail : List Message)
+    (view : CoreView) : Type 0 where
   -- the core has this configuration, this number and this trace
   pub config : view.config ≡ s
   pub number : view.core ≡ core

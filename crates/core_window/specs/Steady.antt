@@ -2,7 +2,7 @@
 --     steady_counts core_step why      what statistics count in one of these cycles
 --     steady_view view core_step why n      a core after n of these cycles
 --     IsSteady view n core_step why      a core does the same in n cycles in which no message comes
---     IsFlow width window issued retired outstanding r n      in n cycles a window takes in all it can, and gives out r
+--     IsFlow width window issued retired outstanding r n      in each of n cycles `width` entries issue and r retire
 use Rattle.std.specs.Prelude.{◌≡◌, ℕ, ◌+◌, ◌-◌, ◌*◌, ◌<◌, ◌≤◌, min, List, length, Option, None, ◌⊎◌}
 use Rattle.sim_base.specs.declared.config.Config.{Config}
 use Rattle.sim_base.specs.declared.history.CoreStep.{CoreStep}
@@ -27,7 +27,8 @@ steady_counts core_step why = unanswered_cycle core_step why 0 0 None
 
 -- a core after n cycles in which it does the same: it only counts
 abbrev pub steady_view : CoreView → CoreStep → Stop → ℕ → CoreView
-steady_view a core_step why n = record a { now = a.now + n; stats = core_joined a.stats (core_times n (steady_counts core_step why)) }
+steady_view a core_step why n =
+    record a { now = a.now + n; stats = core_joined a.stats (core_times n (steady_counts core_step why)) }
 
 -- statistics with `n` further cycles in which a core stops for this cause
 abbrev pub with_stop : CoreStats → Stop → ℕ → CoreStats
@@ -39,7 +40,8 @@ with_stop a stop.Credit n = record a { stop_credit = a.stop_credit + n }
 
 -- statistics with the memory entry that issues, if one does
 abbrev pub with_memory : CoreStats → Option MemoryEntry → CoreStats
-with_memory a memory = record a { reads = a.reads + one_if (is_read_among memory); writes = a.writes + one_if (is_write_among memory) }
+with_memory a memory =
+    record a { reads = a.reads + one_if (is_read_among memory); writes = a.writes + one_if (is_write_among memory) }
 
 -- In each of n cycles a core does the same and stops for the same cause, while no message comes: no memory entry issues
 -- in them, and the last entry of the trace does not retire in them.

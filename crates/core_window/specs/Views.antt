@@ -1,4 +1,4 @@
--- All that a core keeps.
+-- What contracts see of a core.
 use Rattle.std.specs.Prelude.{ℕ, List}
 use Rattle.sim_base.specs.declared.config.Config.{Config}
 use Rattle.sim_base.specs.declared.trace.Entry.{Entry}

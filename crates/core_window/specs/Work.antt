@@ -2,7 +2,7 @@
 --     HeadWaits view, IsFull view      the first entry of a core's window is not done; a core's window is full
 --     StaysBelowFirst core n, StaysBelowSecond core n      n entries more do not go past the memory entries ahead
 --     DoesWork view work      what a core does in the next cycle
---     IsFlowOf numbers outstanding flow      in each cycle of a flow a window takes in as many entries as it can
+--     IsFlowOf numbers outstanding flow      in each cycle of a flow a window has room for the width of entries
 --     IsSteadyFlow view flow      in each cycle of a flow a core issues its width of Plain entries
 --     AdvancesBy n a before b after, AdvancesTo until a before b after      a core goes on by n cycles, or to a cycle
 --     GoesOnTo until a before b after      a core goes on by some cycles, at most to a cycle
@@ -40,15 +40,15 @@ IsFull v = v.config.window ≤ v.stats.issued - v.stats.retired
 
 -- n entries more than a core issued do not go past the first of the memory entries ahead
 abbrev pub StaysBelowFirst : Core → ℕ → Type 0
-StaysBelowFirst c n = c.stats.issued + n ≤ c.found.first_at
+StaysBelowFirst c n = c.stats.issued + n ≤ c.ahead.first_at
 
 -- n entries more than a core issued do not go past the second of the memory entries ahead
 abbrev pub StaysBelowSecond : Core → ℕ → Type 0
-StaysBelowSecond c n = c.stats.issued + n ≤ c.found.second_at
+StaysBelowSecond c n = c.stats.issued + n ≤ c.ahead.second_at
 
 -- a Read or a Write is ahead
 abbrev pub HasMemoryAhead : Core → Type 0
-HasMemoryAhead c = c.found.first_at < length c.trace
+HasMemoryAhead c = c.ahead.first_at < length c.trace
 
 -- what a core does in the next cycle, if no further message comes
 abbrev pub DoesWork : CoreView → CycleWork → Type 0
@@ -62,7 +62,8 @@ IsFlowOf numbers outstanding flow =
 
 -- in each of the cycles of a flow a core issues its width of Plain entries, and does the same
 abbrev pub IsSteadyFlow : CoreView → Flow → Type 0
-IsSteadyFlow view flow = IsSteady view flow.cycles (record { retired = flow.retired; issued = view.config.width }) stop.Width
+IsSteadyFlow view flow =
+    IsSteady view flow.cycles (record { retired = flow.retired; issued = view.config.width }) stop.Width
 
 -- A core goes on by n cycles in which no further message comes, and puts what it sends behind what a list held before.
 abbrev pub AdvancesBy : ℕ → Core → List Message → Core → List Message → Type 0

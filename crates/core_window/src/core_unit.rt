@@ -10,10 +10,10 @@ ghost use Rattle.address_map.specs.Shifts.{IsDigits};
 ghost use Rattle.statistics.specs.declared.final_state.Credits.{Credits};
 ghost use Rattle.core_window.specs.Ahead.{IsPlaced, IsKnown};
 ghost use Rattle.core_window.specs.OneCycle.{lacks_by, IsSeen};
-ghost use Rattle.core_window.specs.Fit.{MayRun, RunsOnto};
+ghost use Rattle.core_window.specs.Fit.{CanRun, RunsOnto};
 ghost use Rattle.core_window.specs.Stands.{StandsFor};
 ghost use Rattle.core_window.specs.Inside.{IsStanding, IsReceiving, GoesOnWithoutSending};
-ghost use Rattle.core_window.specs.Rests.{MayRest, idle_step};
+ghost use Rattle.core_window.specs.Rests.{HasSomePast, idle_step};
 ghost use Rattle.core_window.specs.Silence.{KeepsSilent};
 ghost use Rattle.core_window.specs.Steady.{steady_view, IsSteady};
 ghost use Rattle.core_window.specs.Replies.{MayTakeReply, TakesReplyOf};
@@ -57,11 +57,11 @@ pub struct Core {
     latencies: Vec<u32>,
     stats: CoreStats,
     /// The next two memory entries that the core issues.
-    found: EntriesAhead,
+    ahead: EntriesAhead,
     ghost in_order: { IsDigits config digits },
     ghost travel: { latencies.items ≡ request_latencies config id },
-    ghost seen: { IsSeen trace stats.issued found.first_at found.second_at found.entry },
-    ghost known: { IsKnown config trace found },
+    ghost seen: { IsSeen trace stats.issued ahead.first_at ahead.second_at ahead.entry },
+    ghost known: { IsKnown config trace ahead },
 }
 
 /// What a core does in a cycle, why it stops, and the memory entry that it issues, if it issues one.
@@ -135,7 +135,7 @@ impl Core {
     fn cycle_work(&self) -> CycleWork
         requires { IsStanding (view_of self.now) }
         ensures does { DoesWork (view_of self.now) result }
-        ensures entry { IfSome result.memory (λ e. e.entry ≡ self.now.found.entry) }
+        ensures entry { IfSome result.memory (λ e. e.entry ≡ self.now.ahead.entry) }
         ensures within { StaysBelowSecond self.now result.core_step.issued }
     {
         let len = self.trace.len();
@@ -150,9 +150,9 @@ impl Core {
             retired_by_end,
         };
         let near = most_issued(&self.config, position);
-        let lacks = self.found.first_at < near && is_without_credit(&self.credits, &self.found);
-        let issue = issue_of(&self.config, position, &self.found, lacks);
-        let memory = entry_issued(number, &self.found, issue.count);
+        let lacks = self.ahead.first_at < near && is_without_credit(&self.credits, &self.ahead);
+        let issue = issue_of(&self.config, position, &self.ahead, lacks);
+        let memory = entry_issued(number, &self.ahead, issue.count);
         CycleWork {
             core_step: CoreStep {
                 retired,
@@ -167,7 +167,7 @@ impl Core {
     fn step(&mut self, cycle_work: CycleWork, sent: &mut Vec<Message>) -> Result<(), AllocError>
         requires stands { IsStanding (view_of self.old) }
         requires cycle_work { DoesWork (view_of self.old) cycle_work }
-        requires entry { IfSome cycle_work.memory (λ e. e.entry ≡ self.old.found.entry) }
+        requires entry { IfSome cycle_work.memory (λ e. e.entry ≡ self.old.ahead.entry) }
         requires within { StaysBelowSecond self.old cycle_work.core_step.issued }
         requires early { self.old.cycle < 2 ^ 62 }
         ensures cycle { OnOk result (self.new.cycle ≡ self.old.cycle + 1) }
@@ -177,14 +177,14 @@ impl Core {
         let len = self.trace.len();
         count_memory(&mut self.stats, cycle_work.memory);
         wait_for(&mut self.outstanding, cycle_work.memory, self.cycle)?;
-        spend(&mut self.credits, &self.found.place, cycle_work.memory);
+        spend(&mut self.credits, &self.ahead.place, cycle_work.memory);
         let sender = RequestingCore {
             config: &self.config,
             latencies: &self.latencies,
             core: self.id,
             cycle: self.cycle,
         };
-        send(sent, &sender, &self.found.place, cycle_work.memory)?;
+        send(sent, &sender, &self.ahead.place, cycle_work.memory)?;
         count_cycle(
             &mut self.stats,
             cycle_work.core_step,
@@ -196,7 +196,7 @@ impl Core {
         look_ahead(
             &self.digits,
             &self.trace,
-            &mut self.found,
+            &mut self.ahead,
             self.stats.issued,
             memory_issued(&self.stats),
         );
@@ -218,8 +218,8 @@ impl Core {
     }
 
     /// A reply comes: its Read no longer waits.
-    fn take_reply(&mut self, entry: u64)
-        requires room { MayTakeReply (view_of self.old) entry }
+    fn receive_reply(&mut self, entry: u64)
+        requires room { MayTakeReply (view_of self.old) }
         requires order { IsByNumber (waiting self.old.outstanding) }
         ensures { TakesReplyOf entry (view_of self.old) (view_of self.new) }
     {
@@ -229,7 +229,7 @@ impl Core {
     }
 
     /// A credit comes.
-    fn take_credit_on(&mut self, link: LinkId, access: Access)
+    fn receive_credit(&mut self, link: LinkId, access: Access)
         requires { length self.old.credits.items ≡ self.old.config.channels }
         ensures rest { view_of self.new ≡ with_credits (view_of self.old) self.new.credits.items }
         ensures len { length self.new.credits.items ≡ length self.old.credits.items }
@@ -247,8 +247,8 @@ impl Core {
         ensures { TakesIn (view_of self.old) message (view_of self.new) }
     {
         match message.payload {
-            Payload::Reply(entry) => self.take_reply(entry),
-            Payload::Credit { access, .. } => self.take_credit_on(message.link, access),
+            Payload::Reply(entry) => self.receive_reply(entry),
+            Payload::Credit { access, .. } => self.receive_credit(message.link, access),
             Payload::Request(_) => (),
         }
     }
@@ -262,7 +262,7 @@ impl Core {
         ensures most { result.cycles ≤ most }
     {
         let issued = self.stats.issued;
-        if self.found.first_at.saturating_sub(issued) < u64::from(self.config.width) {
+        if self.ahead.first_at.saturating_sub(issued) < u64::from(self.config.width) {
             return Flow {
                 retired: 0,
                 cycles: 0,
@@ -274,7 +274,7 @@ impl Core {
             window: self.config.window,
             issued,
             retired: self.stats.retired,
-            plain: self.found.first_at.min(last).saturating_sub(issued),
+            plain: self.ahead.first_at.min(last).saturating_sub(issued),
         };
         flow_of(&numbers, self.outstanding.as_slice(), most)
     }
@@ -423,7 +423,7 @@ impl Core {
     {
         prove!(trace.len() <= 1 << 62);
         let digits = Digits::of_config(config);
-        let found = next_two(&digits, &trace, 0, 0);
+        let ahead = next_two(&digits, &trace, 0, 0);
         let outstanding = OutstandingReads::with_room(alloc, config.window as usize)?;
         let credits = all_credits(alloc, config)?;
         let latencies = request_latencies(alloc, config, id)?;
@@ -437,7 +437,7 @@ impl Core {
             credits,
             latencies,
             stats: CoreStats::new(),
-            found,
+            ahead,
         })
     }
 
@@ -454,7 +454,7 @@ impl Core {
         requires at { self.old.cycle ≡ from }
         requires order { from ≤ until }
         requires early { until < 2 ^ 62 }
-        requires fit { MayRun (view_of self.old) from until inbox.now }
+        requires fit { CanRun (view_of self.old) from until inbox.now }
         ensures { OnOk result (RunsOnto (view_of self.old) from until inbox.now
             (view_of self.new) sent.old.items sent.new.items) }
     {
@@ -468,7 +468,7 @@ impl Core {
     /// The cycle where the core stands, if it retires or issues an entry in it; otherwise it never does.
     fn next_work(&self, from: Cycle) -> Option<Cycle>
         requires at { self.now.cycle ≡ from }
-        requires stands { MayRest (view_of self.now) }
+        requires stands { HasSomePast (view_of self.now) }
         ensures { ActsNext (view_of self.now) result }
     {
         let core_step = self.cycle_work().core_step;
@@ -483,7 +483,7 @@ impl Core {
     /// comes; none, where it never does.
     fn next_act(&self, from: Cycle) -> Option<Cycle>
         requires at { self.now.cycle ≡ from }
-        requires stands { MayRest (view_of self.now) }
+        requires stands { HasSomePast (view_of self.now) }
         ensures { ActsNext (view_of self.now) result }
     {
         if is_next_done(
@@ -505,11 +505,11 @@ impl Core {
         ensures { HasMemoryAhead self.now
             → StaysBelowFirst self.now (result * self.now.config.width) }
     {
-        if self.found.first_at >= self.trace.len() {
+        if self.ahead.first_at >= self.trace.len() {
             return u64::MAX;
         }
         cycles_within(
-            self.found.first_at - self.stats.issued,
+            self.ahead.first_at - self.stats.issued,
             self.config.width,
             u64::MAX,
         )
@@ -519,7 +519,7 @@ impl Core {
     /// the last of all cycles where the core does nothing until a message comes, or has no Read or Write left.
     pub fn silent_until(&self, from: Cycle) -> Cycle
         requires at { self.now.cycle ≡ from }
-        requires stands { MayRest (view_of self.now) }
+        requires stands { HasSomePast (view_of self.now) }
         ensures since { from ≤ result }
         ensures silent { KeepsSilent (view_of self.now) result }
     {

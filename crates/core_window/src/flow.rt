@@ -12,8 +12,8 @@ pub struct Flow {
     pub cycles: u64,
 }
 
-/// The numbers of a core by which entries go through its window: how many entries it issued and retired, and how many
-/// of the next ones are Plain, except for the last of its trace.
+/// The numbers of a core by which entries go through its window: its width and its window, how many entries it issued
+/// and retired, and how many of the next ones are Plain, except for the last of its trace.
 #[derive(Clone, Copy)]
 pub struct WindowNumbers {
     pub width: u16,

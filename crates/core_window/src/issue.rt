@@ -16,7 +16,7 @@ use sim_base::config::Config;
 use sim_base::place::Place;
 use sim_base::trace::{Entry, Stop};
 
-/// The number of the next Read or Write from `number` on, before which `before` of them stand, and the entry itself;
+/// The number of the next Read or Write from `from` on, before which `before` of them stand, and the entry itself;
 /// the length of the trace, where there is none.
 fn next_or_end(trace: &Trace, from: u64, before: u64) -> MemoryEntry
     requires { from ≤ length trace.now }

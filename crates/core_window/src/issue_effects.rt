@@ -14,7 +14,7 @@ ghost use Rattle.core_window.specs.Waiting.{WaitsFor};
 ghost use Rattle.statistics.specs.declared.final_state.Credits.{Credits};
 
 use crate::outstanding::{OutstandingRead, OutstandingReads};
-use crate::receive::take_credit;
+use crate::receive::spend_credit;
 use cpu_trace::entries::MemoryEntry;
 use sim_base::config::Config;
 use sim_base::message::{Access, ChannelId, CoreId, Cycle, Message, Payload, Request};
@@ -47,7 +47,7 @@ fn spend_at(credits: &mut [Credits], channel: u32, access: Access)
     requires { channel < length credits.old }
     ensures { IsSpentAt channel access credits.old credits.new }
 {
-    take_credit(&mut credits[channel as usize], access);
+    spend_credit(&mut credits[channel as usize], access);
 }
 
 /// The entry that issues, which lies at this place, spends a credit.

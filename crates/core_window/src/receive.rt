@@ -27,8 +27,8 @@ pub fn add_credit(credits: &mut Credits, access: Access)
     }
 }
 
-/// Takes a credit for an access.
-pub fn take_credit(credits: &mut Credits, access: Access)
+/// Spends a credit for an access.
+pub fn spend_credit(credits: &mut Credits, access: Access)
     ensures { credits.new ≡ less_credit access credits.old }
 {
     match access {

@@ -1,6 +1,6 @@
 -- What memory entries with their numbers stand for, where all other entries are Plain.
 --     entries_after from memory len      the entries from a number up to a length
---     IsAscending from memory len      the numbers rise, from a number up to a length
+--     IsAscending from memory len      each is a Read or a Write, and their numbers rise from one on, below a length
 use Rattle.std.specs.Prelude.{◌≡◌, ℕ, ◌+◌, ◌-◌, ◌≤◌, true, List, [], ◌∷◌, ◌++◌, replicate}
 use Rattle.sim_base.specs.declared.trace.Entry.{Entry}
 use Rattle.sim_base.specs.declared.trace.Entry.TheVariants.{Plain}

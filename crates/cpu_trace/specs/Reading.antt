@@ -41,7 +41,8 @@ kept_from so_far number (line ∷ lines) =
     in_line number (line_entries line) >>= λ entries. kept_from (appended so_far entries) (number + 1) lines
 
 -- The first `count` lines of a text are read, and `rest` is left of it: what is kept before them and after them.
-pub record IsReadUpTo (text : List ℕ) (before : Option (List Entry)) (count : ℕ) (rest : List ℕ) (after : Option (List Entry)) : Type 0 where
+pub record IsReadUpTo (text : List ℕ) (before : Option (List Entry)) (count : ℕ) (rest : List ℕ)
+    (after : Option (List Entry)) : Type 0 where
   pub counted : length (lines_of text) ≡ count + length (lines_of rest)
   pub is_kept : (number : ℕ)
       → kept_from before number (lines_of text) ≡ kept_from after (number + count) (lines_of rest)
@@ -71,7 +72,7 @@ abbrev pub fault_of : ℕ → Unread → Fault
 fault_of core (unread.BadLine line cause) = fault.TraceLine core line cause
 fault_of core unread.Memory = fault.Memory
 
--- the line that it reports, if there is one
+-- the number of the bad line that is reported, and 0 where none is
 abbrev pub line_told : Unread → ℕ
 line_told (unread.BadLine line cause) = line
 line_told unread.Memory = 0

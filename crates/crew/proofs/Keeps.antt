@@ -53,7 +53,7 @@ module _ {X : Type 0} where
 
   -- one without the part has put nothing
   abbrev pub Quiet : PassView X → Type 0
-  Quiet v = v.parts ≡ 0 → v.put ≡ []
+  Quiet v = v.may_put ≡ 0 → v.put ≡ []
 
   abbrev Each : (PassView X → Type 0) → List (PassView X) → Type 0
   Each F views = (i : ℕ) (v : PassView X) → get_elem? views i ≡ some v → F v
@@ -67,12 +67,12 @@ module _ {X : Type 0} where
   pub begins : Kept {X = X} [] (view_of 1 [] [] ∷ [])
   begins = (refl, (λ h. refl), λ i v e. each_snoc Quiet [] (view_of 1 [] []) (λ none. refl) (λ j u e'. absurd (some-ne-none u (sym e'))) i v e)
 
-  pub puts : (n pass : ℕ) (v : PassView X) (x : X) → v.parts ≡ 1 → Pushes Kept n pass v x (λ w. w ≡ view_of v.parts (v.put ++ x ∷ []) v.taken)
+  pub puts : (n pass : ℕ) (v : PassView X) (x : X) → v.may_put ≡ 1 → Pushes Kept n pass v x (λ w. w ≡ view_of v.may_put (v.put ++ x ∷ []) v.taken)
   puts n pass v x mine items views room k at =
-      let w : PassView X = view_of v.parts (v.put ++ x ∷ []) v.taken in (
+      let w : PassView X = view_of v.may_put (v.put ++ x ∷ []) v.taken in (
         w,
         (
-          (let s = weigh_set (λ (u : PassView X). u.parts) views pass v w at in let p = k.0 in omega arith),
+          (let s = weigh_set (λ (u : PassView X). u.may_put) views pass v w at in let p = k.0 in omega arith),
           (λ h.
               let s = weigh_set (λ (u : PassView X). weigh h u.put) views pass v w at in
               let t = weigh_set (λ (u : PassView X). weigh h u.taken) views pass v w at in
@@ -83,12 +83,12 @@ module _ {X : Type 0} where
         refl,
       )
 
-  pub takes : (pass : ℕ) (v : PassView X) → Pops Kept pass v (λ x w. (w ≡ view_of v.parts v.put (v.taken ++ x ∷ [])) × WasInFront x v)
+  pub takes : (pass : ℕ) (v : PassView X) → Pops Kept pass v (λ x w. (w ≡ view_of v.may_put v.put (v.taken ++ x ∷ [])) × WasInFront x v)
   takes pass v x items views k at =
-      let w : PassView X = view_of v.parts v.put (v.taken ++ x ∷ []) in (
+      let w : PassView X = view_of v.may_put v.put (v.taken ++ x ∷ []) in (
         w,
         (
-          (let s = weigh_set (λ (u : PassView X). u.parts) views pass v w at in let p = k.0 in omega arith),
+          (let s = weigh_set (λ (u : PassView X). u.may_put) views pass v w at in let p = k.0 in omega arith),
           (λ h.
               let s = weigh_set (λ (u : PassView X). weigh h u.put) views pass v w at in
               let t = weigh_set (λ (u : PassView X). weigh h u.taken) views pass v w at in
@@ -103,16 +103,16 @@ module _ {X : Type 0} where
   adds_empty pass v items views k at =
       let same : set views pass v ≡ views = set_again views pass v at in
       subst (λ (l : List (PassView X)). Kept items (l ++ spent ∷ [])) (sym same) (
-        (let p = k.0 in omega (arith, weigh_snoc (λ (u : PassView X). u.parts) views spent)),
+        (let p = k.0 in omega (arith, weigh_snoc (λ (u : PassView X). u.may_put) views spent)),
         (λ h. let p = k.1 h in omega (arith, weigh_snoc (λ (u : PassView X). weigh h u.put) views spent, weigh_snoc (λ (u : PassView X). weigh h u.taken) views spent)),
         each_snoc Quiet views spent (λ none. refl) k.2,
       )
 
-  pub splits_taken : (pass : ℕ) (v : PassView X) → Forks Kept pass v (view_of v.parts v.put []) (view_of 0 [] v.taken)
+  pub splits_taken : (pass : ℕ) (v : PassView X) → Forks Kept pass v (view_of v.may_put v.put []) (view_of 0 [] v.taken)
   splits_taken pass v items views k at =
-      let w : PassView X = view_of v.parts v.put [] in
+      let w : PassView X = view_of v.may_put v.put [] in
       let r : PassView X = view_of 0 [] v.taken in (
-        (let s = weigh_set (λ (u : PassView X). u.parts) views pass v w at in let p = k.0 in omega (arith, weigh_snoc (λ (u : PassView X). u.parts) (set views pass w) r)),
+        (let s = weigh_set (λ (u : PassView X). u.may_put) views pass v w at in let p = k.0 in omega (arith, weigh_snoc (λ (u : PassView X). u.may_put) (set views pass w) r)),
         (λ h.
             let s = weigh_set (λ (u : PassView X). weigh h u.put) views pass v w at in
             let t = weigh_set (λ (u : PassView X). weigh h u.taken) views pass v w at in
@@ -121,11 +121,11 @@ module _ {X : Type 0} where
         each_snoc Quiet (set views pass w) r (λ none. refl) (each_set Quiet views pass w (k.2 pass v at) k.2),
       )
 
-  pub absorbs : (pass : ℕ) (v : PassView X) (other : ℕ) (u : PassView X) → u.parts ≡ 0 → u.put ≡ [] → Merges Kept pass v other u (view_of v.parts v.put (v.taken ++ u.taken)) spent
+  pub absorbs : (pass : ℕ) (v : PassView X) (other : ℕ) (u : PassView X) → u.may_put ≡ 0 → u.put ≡ [] → Merges Kept pass v other u (view_of v.may_put v.put (v.taken ++ u.taken)) spent
   absorbs pass v other u none idle items views k at apart at' =
-      let both : PassView X = view_of v.parts v.put (v.taken ++ u.taken) in
+      let both : PassView X = view_of v.may_put v.put (v.taken ++ u.taken) in
       let vs : List (PassView X) = set views pass both in (
-        (let s = weigh_set (λ (y : PassView X). y.parts) views pass v both at in let t = weigh_set (λ (y : PassView X). y.parts) vs other u spent at' in let p = k.0 in omega arith),
+        (let s = weigh_set (λ (y : PassView X). y.may_put) views pass v both at in let t = weigh_set (λ (y : PassView X). y.may_put) vs other u spent at' in let p = k.0 in omega arith),
         (λ h.
             let s = weigh_set (λ (y : PassView X). weigh h y.put) views pass v both at in
             let s' = weigh_set (λ (y : PassView X). weigh h y.put) vs other u spent at' in
@@ -138,17 +138,17 @@ module _ {X : Type 0} where
       )
 
   -- the others have put nothing
-  idle_others : (items : List X) (views : List (PassView X)) (pass : ℕ) (v : PassView X) → v.parts ≡ 1 → Kept items views → get_elem? views pass ≡ some v
+  idle_others : (items : List X) (views : List (PassView X)) (pass : ℕ) (v : PassView X) → v.may_put ≡ 1 → Kept items views → get_elem? views pass ≡ some v
       → (j : ℕ) (u : PassView X) → j ≢ pass → get_elem? views j ≡ some u → u.put ≡ []
-  idle_others items views pass v mine k at j u other e = k.2 j u e (let t = two_of (λ (y : PassView X). y.parts) views pass j v u other at e in let q = k.0 in omega arith)
+  idle_others items views pass v mine k at j u other e = k.2 j u e (let t = two_of (λ (y : PassView X). y.may_put) views pass j v u other at e in let q = k.0 in omega arith)
 
   -- all that was put, this one did
-  mine_all : (items : List X) (views : List (PassView X)) (pass : ℕ) (v : PassView X) → v.parts ≡ 1 → Kept items views → get_elem? views pass ≡ some v
+  mine_all : (items : List X) (views : List (PassView X)) (pass : ℕ) (v : PassView X) → v.may_put ≡ 1 → Kept items views → get_elem? views pass ≡ some v
       → (h : X → ℕ) → weigh (λ (u : PassView X). weigh h u.put) views ≡ weigh h v.put
   mine_all items views pass v mine k at h = only_of (λ (u : PassView X). weigh h u.put) views pass v at (λ j u other e. ap (weigh h) (idle_others items views pass v mine k at j u other e))
 
   -- the one that puts knows that the queue holds no more than it put
-  pub bounds : (pass : ℕ) (v : PassView X) → v.parts ≡ 1 → Learns Kept pass v (λ items. length items ≤ length v.put)
+  pub bounds : (pass : ℕ) (v : PassView X) → v.may_put ≡ 1 → Learns Kept pass v (λ items. length items ≤ length v.put)
   bounds pass v mine items views k at =
       let one : X → ℕ = λ _. 1 in
       let p = k.1 one in
@@ -156,7 +156,7 @@ module _ {X : Type 0} where
       omega (arith, weigh_ones v.put, weigh_ones items)
 
   -- no more was returned than was put
-  returned_below : (pass : ℕ) (v : PassView X) → v.parts ≡ 1 → Learns Kept pass v (λ items. length v.taken ≤ length v.put)
+  returned_below : (pass : ℕ) (v : PassView X) → v.may_put ≡ 1 → Learns Kept pass v (λ items. length v.taken ≤ length v.put)
   returned_below pass v mine items views k at =
       let one : X → ℕ = λ _. 1 in
       let p = k.1 one in
@@ -165,7 +165,7 @@ module _ {X : Type 0} where
       omega (arith, weigh_ones v.put, weigh_ones v.taken)
 
   -- where as many were returned as were put, these are what was put
-  all_returned : (pass : ℕ) (v : PassView X) → v.parts ≡ 1 → Learns Kept pass v (λ items. length v.put ≤ length v.taken → (h : X → ℕ) → weigh h v.taken ≡ weigh h v.put)
+  all_returned : (pass : ℕ) (v : PassView X) → v.may_put ≡ 1 → Learns Kept pass v (λ items. length v.put ≤ length v.taken → (h : X → ℕ) → weigh h v.taken ≡ weigh h v.put)
   all_returned pass v mine items views k at many h =
       let one : X → ℕ = λ _. 1 in
       let p = k.1 one in
@@ -180,13 +180,13 @@ module _ {X : Type 0} where
       let q = k.1 h in
       omega arith
 
-  pub settles : (pass : ℕ) (v : PassView X) → v.parts ≡ 1 → Learns Kept pass v (λ items. IsSettled v)
+  pub settles : (pass : ℕ) (v : PassView X) → v.may_put ≡ 1 → Learns Kept pass v (λ items. IsSettled v)
   settles pass v mine items views k at = (returned_below pass v mine items views k at, all_returned pass v mine items views k at)
 
-  pub clears : (pass : ℕ) (v : PassView X) → v.parts ≡ 1 → ((h : X → ℕ) → weigh h v.taken ≡ weigh h v.put) → Forks Kept pass v (view_of v.parts [] []) spent
+  pub clears : (pass : ℕ) (v : PassView X) → v.may_put ≡ 1 → ((h : X → ℕ) → weigh h v.taken ≡ weigh h v.put) → Forks Kept pass v (view_of v.may_put [] []) spent
   clears pass v mine same items views k at =
-      let w : PassView X = view_of v.parts [] [] in (
-        (let s = weigh_set (λ (u : PassView X). u.parts) views pass v w at in let p = k.0 in omega (arith, weigh_snoc (λ (u : PassView X). u.parts) (set views pass w) spent)),
+      let w : PassView X = view_of v.may_put [] [] in (
+        (let s = weigh_set (λ (u : PassView X). u.may_put) views pass v w at in let p = k.0 in omega (arith, weigh_snoc (λ (u : PassView X). u.may_put) (set views pass w) spent)),
         (λ h.
             let s = weigh_set (λ (u : PassView X). weigh h u.put) views pass v w at in
             let t = weigh_set (λ (u : PassView X). weigh h u.taken) views pass v w at in

@@ -1,6 +1,6 @@
 -- What a board keeps, whatever its threads do.
 --     weigh h xs      h of each item, added up
---     view_of parts put taken      what a pass of the queue knows
+--     view_of may_put put taken      what a pass of the queue knows
 --     spent      what a pass knows that has nothing
 --     Kept items views      the rule
 --     Moment items v      at one moment the queue held these, and the rule held
@@ -29,7 +29,7 @@ weigh h (x ∷ xs) = h x + weigh h xs
 module _ {X : Type 0} where
   -- what a pass knows
   abbrev pub view_of : ℕ → List X → List X → PassView X
-  view_of parts put taken = record { parts = parts; put = put; taken = taken }
+  view_of may_put put taken = record { may_put = may_put; put = put; taken = taken }
 
   -- what a pass knows that has nothing
   abbrev pub spent : PassView X
@@ -39,9 +39,9 @@ module _ {X : Type 0} where
   -- weighed. The other passes have put nothing.
   abbrev pub Kept : List X → List (PassView X) → Type 0
   Kept items views =
-      (weigh (λ v. v.parts) views ≡ 1)
+      (weigh (λ v. v.may_put) views ≡ 1)
       × ((h : X → ℕ) → weigh (λ v. weigh h v.put) views ≡ weigh (λ v. weigh h v.taken) views + weigh h items)
-      × ((i : ℕ) (v : PassView X) → get_elem? views i ≡ some v → v.parts ≡ 0 → v.put ≡ [])
+      × ((i : ℕ) (v : PassView X) → get_elem? views i ≡ some v → v.may_put ≡ 0 → v.put ≡ [])
 
   -- At one moment the queue held these, in this order, and the rule held of them and of what all passes knew, this one
   -- among them.

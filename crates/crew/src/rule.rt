@@ -12,7 +12,7 @@ use std::marker::Brand;
 /// What a pass knows: whether it may put (1 or 0), what it has put since the board was cleared last, and what it has
 /// taken and not returned. No value of this type is ever made.
 pub struct PassView<T> {
-    pub parts: u64,
+    pub may_put: u64,
     pub put: LinkedList<T>,
     pub taken: LinkedList<T>,
 }
@@ -38,7 +38,7 @@ impl<T> Protocol<T, PassView<T>> for BoardRule {
 pub struct Puts;
 
 impl<T> Outcome<T, PassView<T>> for Puts {
-    ghost then = { λ v x w. w ≡ view_of v.parts (v.put ++ x ∷ []) v.taken };
+    ghost then = { λ v x w. w ≡ view_of v.may_put (v.put ++ x ∷ []) v.taken };
 }
 
 impl<T> Lesson<T, PassView<T>> for Puts {
@@ -49,7 +49,7 @@ impl<T> Lesson<T, PassView<T>> for Puts {
 pub struct Takes;
 
 impl<T> Outcome<T, PassView<T>> for Takes {
-    ghost then = { λ v x w. (w ≡ view_of v.parts v.put (v.taken ++ x ∷ [])) × WasInFront x v };
+    ghost then = { λ v x w. (w ≡ view_of v.may_put v.put (v.taken ++ x ∷ [])) × WasInFront x v };
 }
 
 impl<T> Lesson<T, PassView<T>> for Takes {
@@ -76,7 +76,7 @@ impl<T> Split<PassView<T>> for EmptyPass {
 pub struct SplitTaken;
 
 impl<T> Split<PassView<T>> for SplitTaken {
-    ghost left = { λ v. view_of v.parts v.put [] };
+    ghost left = { λ v. view_of v.may_put v.put [] };
 
     ghost right = { λ v. view_of 0 [] v.taken };
 }
@@ -85,7 +85,7 @@ impl<T> Split<PassView<T>> for SplitTaken {
 pub struct Absorb;
 
 impl<T> Join<PassView<T>> for Absorb {
-    ghost both = { λ v w. view_of v.parts v.put (v.taken ++ w.taken) };
+    ghost both = { λ v w. view_of v.may_put v.put (v.taken ++ w.taken) };
 
     ghost spent = { spent };
 }
@@ -94,7 +94,7 @@ impl<T> Join<PassView<T>> for Absorb {
 pub struct Clear;
 
 impl<T> Split<PassView<T>> for Clear {
-    ghost left = { λ v. view_of v.parts [] [] };
+    ghost left = { λ v. view_of v.may_put [] [] };
 
     ghost right = { λ v. spent };
 }

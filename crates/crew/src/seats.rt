@@ -24,7 +24,7 @@ impl<T, B: BoardName> Model for PutSeat<T, B> {
 
     ghost view = { λ s. put_view s.pass.me.0.client.put s.pass.me.0.client.taken };
 
-    ghost invariant = { λ s. IsPassAt B.table s.pass × (s.pass.me.0.client.parts ≡ 1) };
+    ghost invariant = { λ s. IsPassAt B.table s.pass × (s.pass.me.0.client.may_put ≡ 1) };
 }
 
 /// A seat that takes. To a contract it is what it has taken.

@@ -20,7 +20,7 @@ use Rattle.units.specs.SpanLaws.Units.{Exists}
 use Rattle.units.specs.SpanLaws.FlightInTurns.{flight_of}
 use Rattle.units.specs.SpanLaws.Sent.{RequestsTravelFor, AnswersTakeFor}
 use Rattle.units.specs.SpanLaws.Turns.{IsInTurns, IsLowered}
-use Rattle.units.specs.SpanLaws.Turns.{MaySleep}
+use Rattle.units.specs.SpanLaws.Turns.{WaitsInTurns}
 use Rattle.units.proofs.SpanLaws.Bringing.{unit-due, unit-overdue, channel-known, core-known}
 use Rattle.units.proofs.SpanLaws.FlightsInTurns.{flights-meet, channels-further, cores-further}
 use Rattle.units.proofs.SpanLaws.Jumps.{channels-taken, cores-taken, turns-jump, requests-none, answers-none}
@@ -32,7 +32,7 @@ use Rattle.units.proofs.Joining.{fresh-grows}
 use Rattle.units.proofs.Standing.{core-at_place, channel-at_place}
 use Rattle.in_place.specs.Turns.{AreByKind, AreInTurns, all_units, all_words}
 use Rattle.in_place.specs.declared.taking_turns.UnitsByKind.{UnitsByKind}
-use Rattle.units.specs.Wakes.{Sleeper, Waits, WaitAll, HoldsInbox, HoldInboxes, AreLowered, IsAsleep, units_from, links_after, sleeper, sleeper_at}
+use Rattle.units.specs.Wakes.{UnitWithWord, Waits, WaitAll, HoldsInbox, HoldInboxes, AreLowered, AreBetweenPhases, units_from, links_after, unit_with_word, unit_with_word_at}
 use Rattle.units.specs.declared.timed_unit.TimedUnit.{TimedUnit}
 use Rattle.units.proofs.Going.{units-places}
 use Rattle.units.specs.declared.machine.Machine.{Machine}
@@ -102,16 +102,16 @@ cores-holds_inbox machine a b until units words links h t k less =
     }))
 
 -- the words and units of the cores, and those of the channels
-pub core-part : (units : List TimedUnit) (words : List ℕ) (cores k : ℕ) (d : TimedUnit) → k < cores → sleeper_at (take cores units) (take cores words) k d ≡ sleeper_at units words k d
-core-part units words cores k d l = ap₂ sleeper (get_or-take cores units k d l) (get_or-take cores words k 0 l)
+pub core-part : (units : List TimedUnit) (words : List ℕ) (cores k : ℕ) (d : TimedUnit) → k < cores → unit_with_word_at (take cores units) (take cores words) k d ≡ unit_with_word_at units words k d
+core-part units words cores k d l = ap₂ unit_with_word (get_or-take cores units k d l) (get_or-take cores words k 0 l)
 
-pub channel-part : (units : List TimedUnit) (words : List ℕ) (cores k : ℕ) (d : TimedUnit) → sleeper_at (drop cores units) (drop cores words) k d ≡ sleeper_at units words (cores + k) d
-channel-part units words cores k d = ap₂ sleeper (get_or-drop cores units k d) (get_or-drop cores words k 0)
+pub channel-part : (units : List TimedUnit) (words : List ℕ) (cores k : ℕ) (d : TimedUnit) → unit_with_word_at (drop cores units) (drop cores words) k d ≡ unit_with_word_at units words (cores + k) d
+channel-part units words cores k d = ap₂ unit_with_word (get_or-drop cores units k d) (get_or-drop cores words k 0)
 
 pub channels-wait_all : (machine : Machine) (a b : ℕ) (units : List TimedUnit) (words : List ℕ) (links : InFlight) → AreInTurns machine a b units words links
     → WaitAll machine machine.config.cores b a (drop machine.config.cores units) (drop machine.config.cores words)
 channels-wait_all machine a b units words links h k d less =
-    subst (λ u. Waits machine u b a (sleeper_at (drop machine.config.cores units) (drop machine.config.cores words) k d)) (sym (channel-at machine.config k))
+    subst (λ u. Waits machine u b a (unit_with_word_at (drop machine.config.cores units) (drop machine.config.cores words) k d)) (sym (channel-at machine.config k))
     (subst (Waits machine (Channel k) b a) (sym (channel-part units words machine.config.cores k d))
     (h.channels_wait k d (omega (arith, less, length-drop machine.config.cores units, h.count))))
 
@@ -119,15 +119,15 @@ pub cores-wait_all : (machine : Machine) (a b : ℕ) (units : List TimedUnit) (w
     → WaitAll machine 0 a b (take machine.config.cores units) (take machine.config.cores words)
 cores-wait_all machine a b units words links h k d less =
     let l : k < machine.config.cores = omega (arith, less, length-take machine.config.cores units) in
-    subst (λ u. Waits machine u a b (sleeper_at (take machine.config.cores units) (take machine.config.cores words) k d)) (sym (core-at machine.config k l))
+    subst (λ u. Waits machine u a b (unit_with_word_at (take machine.config.cores units) (take machine.config.cores words) k d)) (sym (core-at machine.config k l))
     (subst (Waits machine (Core k) a b) (sym (core-part units words machine.config.cores k d l)) (h.cores_wait k d l))
 
-left-here : (xs ys : List TimedUnit) (ws vs : List ℕ) (k : ℕ) (d : TimedUnit) → k < length xs → k < length ws → sleeper_at (xs ++ ys) (ws ++ vs) k d ≡ sleeper_at xs ws k d
-left-here xs ys ws vs k d l m = ap₂ sleeper (get_or_append_left xs ys d k l) (get_or_append_left ws vs 0 k m)
+left-here : (xs ys : List TimedUnit) (ws vs : List ℕ) (k : ℕ) (d : TimedUnit) → k < length xs → k < length ws → unit_with_word_at (xs ++ ys) (ws ++ vs) k d ≡ unit_with_word_at xs ws k d
+left-here xs ys ws vs k d l m = ap₂ unit_with_word (get_or_append_left xs ys d k l) (get_or_append_left ws vs 0 k m)
 
-right-here : (xs ys : List TimedUnit) (ws vs : List ℕ) (n k : ℕ) (d : TimedUnit) → length xs ≡ n → length ws ≡ n → sleeper_at (xs ++ ys) (ws ++ vs) (n + k) d ≡ sleeper_at ys vs k d
+right-here : (xs ys : List TimedUnit) (ws vs : List ℕ) (n k : ℕ) (d : TimedUnit) → length xs ≡ n → length ws ≡ n → unit_with_word_at (xs ++ ys) (ws ++ vs) (n + k) d ≡ unit_with_word_at ys vs k d
 right-here xs ys ws vs n k d e f =
-    ap₂ sleeper
+    ap₂ unit_with_word
     (ap (λ i. get_or (xs ++ ys) (i + k) d) (sym e) ∙ get_or-append-add xs ys k d)
     (ap (λ i. get_or (ws ++ vs) (i + k) 0) (sym f) ∙ get_or-append-add ws vs k 0)
 
@@ -150,15 +150,15 @@ channels-wait machine now kinds k h i d l =
     let place : 0 + (n + i) ≡ n + i = omega arith in
     subst (Waits machine (unit_at machine.config (n + i)) now now)
     (right-here cores.units.items channels.units.items cores.words.items channels.words.items n i d k.cores_count k.core_words)
-    (subst (λ p. Waits machine (unit_at machine.config p) now now (sleeper_at (all_units kinds) (all_words kinds) (n + i) d)) place
+    (subst (λ p. Waits machine (unit_at machine.config p) now now (unit_with_word_at (all_units kinds) (all_words kinds) (n + i) d)) place
     (h (n + i) d (omega (arith, l, k.cores_count, length-append cores.units.items channels.units.items))))
 
 -- a unit that is not touched waits on, with its word lowered
-core-lowered : (machine : Machine) (a b until core : ℕ) (before after : Sleeper) (sent : List Message) → core < machine.config.cores → b ≤ until → AnswersTakeFor machine.config (a - b)
+core-lowered : (machine : Machine) (a b until core : ℕ) (before after : UnitWithWord) (sent : List Message) → core < machine.config.cores → b ≤ until → AnswersTakeFor machine.config (a - b)
     → sent ≡ flat_map (sent_by_channel machine b until) (below machine.config.channels) → after.part ≡ before.part → IsLowered machine.config (Core core) before.at before.wake after.at after.wake sent
     → Waits machine (Core core) a b before → Waits machine (Core core) a until after
 core-lowered machine a b until core before after sent k l near e same low h =
-    let left : MaySleep machine.config machine.traces.items a until (Core core) after.at after.wake =
+    let left : WaitsInTurns machine.config machine.traces.items a until (Core core) after.at after.wake =
     core-keeps machine.config machine.traces.items a b until core before.at before.wake after.at after.wake (sent_by_channel machine b until) l near (channels-grow machine b until l)
     (record { behind = h.behind; ahead = h.ahead; silent = h.may.silent; none = h.may.none })
     (subst (IsLowered machine.config (Core core) before.at before.wake after.at after.wake) e low) in
@@ -169,11 +169,11 @@ core-lowered machine a b until core before after sent k l near e same low h =
       may = record { silent = left.silent; none = left.none };
     }
 
-channel-lowered : (machine : Machine) (a b until channel : ℕ) (before after : Sleeper) (sent : List Message) → channel < machine.config.channels → a ≤ until → RequestsTravelFor machine.config (b - a)
+channel-lowered : (machine : Machine) (a b until channel : ℕ) (before after : UnitWithWord) (sent : List Message) → channel < machine.config.channels → a ≤ until → RequestsTravelFor machine.config (b - a)
     → sent ≡ flat_map (sent_by_core machine a until) (below machine.config.cores) → after.part ≡ before.part → IsLowered machine.config (Channel channel) before.at before.wake after.at after.wake sent
     → Waits machine (Channel channel) b a before → Waits machine (Channel channel) b until after
 channel-lowered machine a b until channel before after sent k l near e same low h =
-    let left : MaySleep machine.config machine.traces.items until b (Channel channel) after.at after.wake =
+    let left : WaitsInTurns machine.config machine.traces.items until b (Channel channel) after.at after.wake =
     channel-keeps machine.config machine.traces.items a b until channel before.at before.wake after.at after.wake (sent_by_core machine a until) l near (cores-grow machine a until l)
     (record { behind = h.behind; ahead = h.ahead; silent = h.may.silent; none = h.may.none })
     (subst (IsLowered machine.config (Channel channel) before.at before.wake after.at after.wake) e low) in
@@ -255,12 +255,12 @@ channels-turned machine a b until units moved words lowered new links after sent
       cores_near = answers-shorter machine.config (a - b) (a - until) (omega arith) h.cores_near;
       cores_wait = λ core d k.
           subst (Waits machine (Core core) a until) (sym (left-here (take machine.config.cores units) moved lowered new core d (omega (arith, front, k)) (omega (arith, low_count, k))))
-          (core-lowered machine a b until core (sleeper_at (take machine.config.cores units) (take machine.config.cores words) core d) (sleeper_at (take machine.config.cores units) lowered core d) sent k l h.cores_near are refl
+          (core-lowered machine a b until core (unit_with_word_at (take machine.config.cores units) (take machine.config.cores words) core d) (unit_with_word_at (take machine.config.cores units) lowered core d) sent k l h.cores_near are refl
           (word-lowered machine.config 0 core (get_or (take machine.config.cores units) core d).at (Core core) sent (take machine.config.cores words) lowered low (omega (arith, words_front, k)) (core-at machine.config core k))
           (subst (Waits machine (Core core) a b) (sym (core-part units words machine.config.cores core d k)) (h.cores_wait core d k)));
       channels_wait = λ channel d k.
           subst (Waits machine (Channel channel) until a) (sym (right-here (take machine.config.cores units) moved lowered new machine.config.cores channel d front low_count))
-          (subst (λ u. Waits machine u until a (sleeper_at moved new channel d)) (channel-at machine.config channel) (wait channel d (omega (arith, k, long, length-drop machine.config.cores units, h.count))));
+          (subst (λ u. Waits machine u until a (unit_with_word_at moved new channel d)) (channel-at machine.config channel) (wait channel d (omega (arith, k, long, length-drop machine.config.cores units, h.count))));
       flight = channels-flight machine a b until links after sent l h.cores_near h.flight are left;
     }
   where
@@ -288,10 +288,10 @@ cores-turned machine a b until units moved words lowered new links after sent h 
       cores_near = t;
       cores_wait = λ core d k.
           subst (Waits machine (Core core) until b) (sym (left-here moved (drop machine.config.cores units) new lowered core d (omega (arith, front, k)) (omega (arith, words_front, k))))
-          (subst (λ u. Waits machine u until b (sleeper_at moved new core d)) (core-at machine.config core k) (wait core d (omega (arith, k, front))));
+          (subst (λ u. Waits machine u until b (unit_with_word_at moved new core d)) (core-at machine.config core k) (wait core d (omega (arith, k, front))));
       channels_wait = λ channel d k.
           subst (Waits machine (Channel channel) b until) (sym (right-here moved (drop machine.config.cores units) new lowered machine.config.cores channel d front words_front))
-          (channel-lowered machine a b until channel (sleeper_at (drop machine.config.cores units) (drop machine.config.cores words) channel d) (sleeper_at (drop machine.config.cores units) lowered channel d) sent k l h.channels_near are refl
+          (channel-lowered machine a b until channel (unit_with_word_at (drop machine.config.cores units) (drop machine.config.cores words) channel d) (unit_with_word_at (drop machine.config.cores units) lowered channel d) sent k l h.channels_near are refl
           (word-lowered machine.config machine.config.cores channel (get_or (drop machine.config.cores units) channel d).at (Channel channel) sent (drop machine.config.cores words) lowered low (omega (arith, k, length-drop machine.config.cores words, h.words_count, h.count)) (channel-at machine.config channel))
           (subst (Waits machine (Channel channel) b a) (sym (channel-part units words machine.config.cores channel d)) (h.channels_wait channel d k)));
       flight = cores-flight machine a b until links after sent l h.channels_near h.flight are left;
@@ -323,27 +323,27 @@ turns-later machine a b until units words links h l m sleep =
       cores_near = then.cores_near;
       cores_wait = λ core d k.
           let w = h.cores_wait core d k in
-          record { behind = omega (arith, w.behind, l); ahead = sleeps (Core core) k; stands = w.stands; may = record { silent = w.may.silent; none = core-none core d k } };
+          record { behind = omega (arith, w.behind, l); ahead = wakes_later (Core core) k; stands = w.stands; may = record { silent = w.may.silent; none = core-none core d k } };
       channels_wait = λ channel d k.
           let w = h.channels_wait channel d k in
-          record { behind = omega (arith, w.behind, m); ahead = sleeps (Channel channel) k; stands = w.stands; may = record { silent = w.may.silent; none = channel-none channel d k } };
+          record { behind = omega (arith, w.behind, m); ahead = wakes_later (Channel channel) k; stands = w.stands; may = record { silent = w.may.silent; none = channel-none channel d k } };
       flight = h.flight ∙ ap {B = InFlight} (λ ms. record { channels = machine.config.channels; messages = ms }) then.holds;
     }
   where
     some : TimedUnit
     some = some-of units (let c = has_channels machine.config in omega (arith, h.count, c))
 
-    sleeps : (u : MachineUnit) → Exists machine.config u → until ≤ word_of machine.config words u
-    sleeps (Core core) k = sleep core 0 (omega (arith, k, h.words_count, h.count))
-    sleeps (Channel channel) k = sleep (machine.config.cores + channel) 0 (omega (arith, k, h.words_count, h.count))
+    wakes_later : (u : MachineUnit) → Exists machine.config u → until ≤ word_of machine.config words u
+    wakes_later (Core core) k = sleep core 0 (omega (arith, k, h.words_count, h.count))
+    wakes_later (Channel channel) k = sleep (machine.config.cores + channel) 0 (omega (arith, k, h.words_count, h.count))
 
-    waits : (u : MachineUnit) → Exists machine.config u → MaySleep machine.config machine.traces.items a b u (cycle_of machine.config units some u) (word_of machine.config words u)
+    waits : (u : MachineUnit) → Exists machine.config u → WaitsInTurns machine.config machine.traces.items a b u (cycle_of machine.config units some u) (word_of machine.config words u)
     waits (Core core) k = let w = h.cores_wait core some k in record { behind = w.behind; ahead = w.ahead; silent = w.may.silent; none = w.may.none }
     waits (Channel channel) k = let w = h.channels_wait channel some k in record { behind = w.behind; ahead = w.ahead; silent = w.may.silent; none = w.may.none }
 
     then : IsInTurns machine.config machine.traces.items until until (cycle_of machine.config units some) (word_of machine.config words) (flight_of machine.config machine.traces.items a b)
     then =
-        turns-jump machine.config machine.traces.items a b until (cycle_of machine.config units some) (word_of machine.config words) (flight_of machine.config machine.traces.items a b) l m sleeps
+        turns-jump machine.config machine.traces.items a b until (cycle_of machine.config units some) (word_of machine.config words) (flight_of machine.config machine.traces.items a b) l m wakes_later
         (record { channels_near = h.channels_near; cores_near = h.cores_near; wait = waits; holds = refl })
 
     core-none : (core : ℕ) (d : TimedUnit) → core < machine.config.cores → mail_in machine.config machine.traces.items until (Core core) (get_or units core d).at (get_or words core 0) ≡ []
@@ -361,25 +361,25 @@ all-flight s traces now count e =
     ap (λ n. among s 0 n (in_flight s traces (run s traces now))) f ∙ among-all s traces now ∙ sym (flights-meet s traces now)
 
 -- a machine whose units all wait at one cycle is in turns
-pub asleep-turns : (machine : Machine) (now : ℕ) (units : List TimedUnit) (words : List ℕ) (links : InFlight) → IsAsleep machine 0 now units words links → length units ≡ unit_count machine.config
+pub between_phases-turns : (machine : Machine) (now : ℕ) (units : List TimedUnit) (words : List ℕ) (links : InFlight) → AreBetweenPhases machine 0 now units words links → length units ≡ unit_count machine.config
     → AreInTurns machine now now units words links
-asleep-turns machine now units words links h whole =
+between_phases-turns machine now units words links h whole =
     record {
       count = whole;
       words_count = h.words_count;
       channels_near = requests-none machine.config (now - now) (omega arith);
       cores_near = answers-none machine.config (now - now) (omega arith);
-      cores_wait = λ core d k. subst (λ u. Waits machine u now now (sleeper_at units words core d)) (core-at machine.config core k) (h.wait core d (omega (arith, k, whole)));
+      cores_wait = λ core d k. subst (λ u. Waits machine u now now (unit_with_word_at units words core d)) (core-at machine.config core k) (h.wait core d (omega (arith, k, whole)));
       channels_wait = λ channel d k.
           let e : 0 + (machine.config.cores + channel) ≡ machine.config.cores + channel = omega arith in
-          subst (λ u. Waits machine u now now (sleeper_at units words (machine.config.cores + channel) d)) (ap (unit_at machine.config) e ∙ channel-at machine.config channel) (h.wait (machine.config.cores + channel) d (omega (arith, k, whole)));
+          subst (λ u. Waits machine u now now (unit_with_word_at units words (machine.config.cores + channel) d)) (ap (unit_at machine.config) e ∙ channel-at machine.config channel) (h.wait (machine.config.cores + channel) d (omega (arith, k, whole)));
       flight = h.flight ∙ ap {B = InFlight} (λ ms. record { channels = machine.config.channels; messages = ms }) (all-flight machine.config machine.traces.items now (length units) whole);
     }
 
 -- where a machine is in turns at one cycle, all its units wait there
-pub turns-asleep : (machine : Machine) (now : ℕ) (units : List TimedUnit) (words : List ℕ) (links : InFlight) → AreInTurns machine now now units words links → now ≤ 10 ^ 12
-    → IsAsleep machine 0 now units words links
-turns-asleep machine now units words links h early =
+pub turns-between_phases : (machine : Machine) (now : ℕ) (units : List TimedUnit) (words : List ℕ) (links : InFlight) → AreInTurns machine now now units words links → now ≤ 10 ^ 12
+    → AreBetweenPhases machine 0 now units words links
+turns-between_phases machine now units words links h early =
     record {
       early = early;
       within = omega (arith, h.count);
@@ -388,10 +388,10 @@ turns-asleep machine now units words links h early =
       flight = h.flight ∙ ap {B = InFlight} (λ ms. record { channels = machine.config.channels; messages = ms }) (sym (all-flight machine.config machine.traces.items now (length units) h.count));
     }
   where
-    waits : (k : ℕ) (d : TimedUnit) → k < unit_count machine.config → (k < machine.config.cores) ⊎ (machine.config.cores ≤ k) → Waits machine (unit_at machine.config (0 + k)) now now (sleeper_at units words k d)
-    waits k d less (inl l) = subst (λ u. Waits machine u now now (sleeper_at units words k d)) (sym (core-at machine.config k l)) (h.cores_wait k d l)
+    waits : (k : ℕ) (d : TimedUnit) → k < unit_count machine.config → (k < machine.config.cores) ⊎ (machine.config.cores ≤ k) → Waits machine (unit_at machine.config (0 + k)) now now (unit_with_word_at units words k d)
+    waits k d less (inl l) = subst (λ u. Waits machine u now now (unit_with_word_at units words k d)) (sym (core-at machine.config k l)) (h.cores_wait k d l)
     waits k d less (inr l) =
         let e : machine.config.cores + (k - machine.config.cores) ≡ k = omega (arith, l) in
         let f : 0 + k ≡ machine.config.cores + (k - machine.config.cores) = omega (arith, l) in
-        subst (λ u. Waits machine u now now (sleeper_at units words k d)) (sym (ap (unit_at machine.config) f ∙ channel-at machine.config (k - machine.config.cores)))
-        (subst (λ n. Waits machine (Channel (k - machine.config.cores)) now now (sleeper_at units words n d)) e (h.channels_wait (k - machine.config.cores) d (omega (arith, less, l))))
+        subst (λ u. Waits machine u now now (unit_with_word_at units words k d)) (sym (ap (unit_at machine.config) f ∙ channel-at machine.config (k - machine.config.cores)))
+        (subst (λ n. Waits machine (Channel (k - machine.config.cores)) now now (unit_with_word_at units words n d)) e (h.channels_wait (k - machine.config.cores) d (omega (arith, less, l))))

@@ -2,7 +2,7 @@
 --     AreInTurns machine cores_at channels_at units words links      what holds of such a machine between two turns
 --     AreByKind machine kinds      the cores of a machine are at the first places, and its channels at the others
 --     all_units kinds, all_words kinds      all units, and all words
---     AllAsleep machine now kinds links      all units wait at a cycle
+--     AllBetweenPhases machine now kinds links      all units wait at a cycle
 --     InTurnsAt machine at kinds links      what holds between two turns of a machine that stands at these cycles
 --     channels_to, cores_to until at      where a machine stands when one kind has gone on to a cycle
 --     links_between machine cores_at channels_at      the links where the cores and the channels stand at these cycles
@@ -13,7 +13,7 @@ use Rattle.units.specs.SpanLaws.FlightInTurns.{flight_of}
 use Rattle.units.specs.SpanLaws.Sent.{RequestsTravelFor, AnswersTakeFor}
 use Rattle.units.specs.Units.{unit_count}
 use Rattle.units.specs.declared.machine.Machine.{Machine}
-use Rattle.units.specs.Wakes.{IsAsleep, Waits, sleeper_at}
+use Rattle.units.specs.Wakes.{AreBetweenPhases, Waits, unit_with_word_at}
 use Rattle.units.specs.declared.timed_unit.TimedUnit.{TimedUnit}
 use Rattle.in_place.specs.declared.taking_turns.TurnCycles.{TurnCycles}
 use Rattle.in_place.specs.declared.taking_turns.UnitsByKind.{UnitsByKind}
@@ -26,18 +26,20 @@ links_between machine cores_at channels_at =
       messages = flight_of machine.config machine.traces.items cores_at channels_at;
     }
 
--- The cores stand at `cores_at` and the channels at `channels_at`, neither further ahead than what they send takes to
--- the others. Each unit waits, as far as is known from where the others stand, and the links hold exactly what is in
--- flight.
-pub record AreInTurns (machine : Machine) (cores_at channels_at : ℕ) (units : List TimedUnit) (words : List ℕ) (links : InFlight) : Type 0 where
+-- The cores stand at `cores_at` and the channels at `channels_at`, neither further ahead than the least time of a
+-- message to them. Each unit waits, as far as is known from where the others stand, and the links hold exactly what is
+-- in flight.
+pub record AreInTurns (machine : Machine) (cores_at channels_at : ℕ) (units : List TimedUnit) (words : List ℕ)
+    (links : InFlight) : Type 0 where
   pub count : length units ≡ unit_count machine.config
   pub words_count : length words ≡ length units
   pub channels_near : RequestsTravelFor machine.config (channels_at - cores_at)
   pub cores_near : AnswersTakeFor machine.config (cores_at - channels_at)
   pub cores_wait : (core : ℕ) (d : TimedUnit) → core < machine.config.cores
-      → Waits machine (Core core) cores_at channels_at (sleeper_at units words core d)
+      → Waits machine (Core core) cores_at channels_at (unit_with_word_at units words core d)
   pub channels_wait : (channel : ℕ) (d : TimedUnit) → channel < machine.config.channels
-      → Waits machine (Channel channel) channels_at cores_at (sleeper_at units words (machine.config.cores + channel) d)
+      → Waits machine (Channel channel) channels_at cores_at
+      (unit_with_word_at units words (machine.config.cores + channel) d)
   pub flight : links ≡ links_between machine cores_at channels_at
 
 -- The cores of a machine are at its first places, and its channels at the places behind them.
@@ -56,8 +58,8 @@ abbrev pub all_words : UnitsByKind → List ℕ
 all_words kinds = kinds.cores.words.items ++ kinds.channels.words.items
 
 -- all units wait at a cycle, and the links hold what is in flight
-abbrev pub AllAsleep : Machine → ℕ → UnitsByKind → InFlight → Type 0
-AllAsleep machine now kinds links = IsAsleep machine 0 now (all_units kinds) (all_words kinds) links
+abbrev pub AllBetweenPhases : Machine → ℕ → UnitsByKind → InFlight → Type 0
+AllBetweenPhases machine now kinds links = AreBetweenPhases machine 0 now (all_units kinds) (all_words kinds) links
 
 -- a machine is between two turns, where its cores and its channels stand at these cycles
 abbrev pub InTurnsAt : Machine → TurnCycles → UnitsByKind → InFlight → Type 0

@@ -5,7 +5,7 @@ ghost use Rattle.links.specs.InFlight.{InFlight};
 ghost use Rattle.units.specs.SpanLaws.Sent.{RequestsTravelFor, AnswersTakeFor};
 ghost use Rattle.units.specs.Units.{unit_count};
 ghost use Rattle.units.specs.declared.machine.Machine.{Machine};
-ghost use Rattle.in_place.specs.Turns.{AllAsleep, AreByKind, InTurnsAt, all_units, channels_to, cores_to};
+ghost use Rattle.in_place.specs.Turns.{AllBetweenPhases, AreByKind, InTurnsAt, all_units, channels_to, cores_to};
 
 use sim_base::message::Cycle;
 use std::alloc::AllocError;
@@ -147,12 +147,13 @@ pub(crate) fn run_to(
     limit: Cycle,
 ) -> Result<(), AllocError>
     requires by_kind { AreByKind machine.now kinds.old }
-    requires asleep { AllAsleep machine.now from kinds.old traffic.old.links }
+    requires between_phases { AllBetweenPhases machine.now from kinds.old traffic.old.links }
     requires whole { length (all_units kinds.old) ≡ unit_count machine.now.config }
     requires order { from ≤ limit }
     requires early { limit ≤ 10 ^ 12 }
     ensures by_kind { OnOk result (AreByKind machine.now kinds.new) }
-    ensures asleep { OnOk result (AllAsleep machine.now limit kinds.new traffic.new.links) }
+    ensures between_phases { OnOk result (
+        AllBetweenPhases machine.now limit kinds.new traffic.new.links) }
     ensures count { length (all_units kinds.new) ≡ length (all_units kinds.old) }
 {
     let request = least_request_latency(&machine.config);

@@ -20,7 +20,7 @@ use Rattle.sim_base.specs.declared.trace.Entry.{Entry}
 use Rattle.sim_base.proofs.Ordered.{Each-weaker}
 use Rattle.sim_base.proofs.Lists.{count-push}
 use Rattle.laws.specs.Commands.{channel_steps_of, history_of}
-use Rattle.laws.specs.DataBus.{is_in_burst, has_data_in, moves_data_in, DataBusIsShared}
+use Rattle.laws.specs.DataBus.{is_in_burst, has_data_in, moves_data_in, BurstsDoNotOverlap}
 use Rattle.laws.proofs.Counting.{count-none, Each-list_all}
 use Rattle.statistics.proofs.ChannelCounts.{issued_commands-push}
 use Rattle.laws.proofs.Legal.{chosen, channel_steps_of-more, IsLegalStep, legal_step}
@@ -125,5 +125,5 @@ bus_shared s traces k cycle l (suc n) =
     subst (λ x. count_by (has_data_in s.timing cycle) x ≤ 1) (sym (ap (issued_commands k) (channel_steps_of-more s traces n k l) ∙ issued_commands-push k steps (chosen s traces n k)))
     (shared_more s k cycle steps (chosen s traces n k) (legal_step s traces k n) (bus_shared s traces k cycle l n))
 
-pub data_bus_is_shared : (s : Config) (traces : List (List Entry)) (n : ℕ) → DataBusIsShared s traces n
-data_bus_is_shared s traces n k cycle l = bus_shared s traces k cycle l n
+pub bursts_do_not_overlap : (s : Config) (traces : List (List Entry)) (n : ℕ) → BurstsDoNotOverlap s traces n
+bursts_do_not_overlap s traces n k cycle l = bus_shared s traces k cycle l n

@@ -16,14 +16,11 @@ use Rattle.sim_base.specs.declared.message.Message.{Message}
 use Rattle.sim_base.specs.declared.message.Request.{Request}
 use Rattle.sim_base.proofs.Each.{IfSome-find}
 use Rattle.sim_base.proofs.Served.{or_else-each, candidates-each}
+use Rattle.std.proofs.lemmas.Option.{IfSome_then}
 
 pub find-passes : {X : Type 0} (p : X → Bool) (xs : List X) → IfSome (find p xs) (λ x. p x ≡ true)
 find-passes p [] = tt
 find-passes p (x ∷ xs) = cond_both (p x) (Some x) (find p xs) (λ o. IfSome o (λ y. p y ≡ true)) (λ e. e) (λ e. find-passes p xs)
-
-pub IfSome-weaker : {X : Type 0} (P Q : X → Type 0) → ((x : X) → P x → Q x) → (o : Option X) → IfSome o P → IfSome o Q
-IfSome-weaker P Q f None h = tt
-IfSome-weaker P Q f (Some x) h = f x h
 
 pub IfSome-option_map : {X Y : Type 0} (P : Y → Type 0) (f : X → Y) (o : Option X) → IfSome o (λ x. P (f x)) → IfSome (option_map f o) P
 IfSome-option_map P f None h = tt
@@ -49,8 +46,8 @@ first_ready-legal s history now requests =
     let wanted = λ (r : Request). IsLegalNow s history now (needed history r) in
     IfSome-option_map (IsLegalNow s history now) (needed history) _
     (or_else-each wanted (find (ready_hit s history now) requests) (find (ready_row s history now requests) requests)
-    (IfSome-weaker _ wanted (hit-legal s history now) _ (find-passes (ready_hit s history now) requests))
-    (IfSome-weaker _ wanted (row-legal s history now requests) _ (find-passes (ready_row s history now requests) requests)))
+    (IfSome_then _ (find-passes (ready_hit s history now) requests) (hit-legal s history now))
+    (IfSome_then _ (find-passes (ready_row s history now requests) requests) (row-legal s history now requests)))
 
 if_legal-legal : (s : Config) (history : List IssuedCommand) (now : ℕ) (command : Command) → IfSome (if_legal s history now command) (IsLegalNow s history now)
 unfolding if_legal

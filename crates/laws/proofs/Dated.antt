@@ -1,23 +1,20 @@
 -- A request is sent in the cycle in which its entry issues.
-use Rattle.std.proofs.Common.{◌≡◌, ℕ, zero, suc, ◌+◌, ◌<◌, ◌≤◌, Bool, true, false, cond, leb, List, [], ◌∷◌, ◌++◌, length, take, refl, sym, ap, ap₂, subst, ◌∙◌, add-one, zero-add, arith}
+use Rattle.std.proofs.Common.{◌≡◌, ℕ, zero, suc, ◌+◌, ◌<◌, ◌≤◌, true, List, [], ◌∷◌, ◌++◌, length, refl, sym, ap, subst, ◌∙◌, arith}
 use Rattle.std.specs.Prelude.{filter}
 use Rattle.std.specs.Option.{IfSome}
-use Rattle.std.specs.List.{AllByRecursion as Each, prefix_len, range_with_len}
-use Rattle.std.proofs.Math.Seq.{take-length}
-use Rattle.std.proofs.lemmas.Bool.{eqb-true, le-leb, lt-leb}
+use Rattle.std.specs.List.{AllByRecursion as Each}
+use Rattle.std.proofs.lemmas.Bool.{eqb-true}
 use Rattle.std.proofs.lemmas.List.Elements.{All-from_recursion}
-use Rattle.std.proofs.lemmas.List.Folds.{length-prefix_len}
 use Rattle.sim_base.specs.declared.message.Access.{Access}
 use Rattle.sim_base.specs.declared.config.Config.{Config}
 use Rattle.sim_base.specs.Config.{request_link, latency}
-use Rattle.sim_base.specs.Counts.{is_unissued_after, issue_cycle}
+use Rattle.sim_base.specs.Counts.{issue_cycle}
 use Rattle.sim_base.specs.Places.{place_of}
 use Rattle.sim_base.specs.MachineStep.{MachineStep, step_of_core, step_of_channel}
-use Rattle.sim_base.specs.History.{below, steps_of_core, issued_before, request, request_of, reply, credit, messages, receiver, is_unit, is_to, by_age, inbox}
+use Rattle.sim_base.specs.History.{steps_of_core, issued_before, request, request_of, reply, credit, messages, receiver, is_unit, is_to, by_age, inbox}
 use Rattle.sim_base.specs.Sends.{sends, channel_sends}
 use Rattle.sim_base.specs.Scheduling.{request_in, source_of}
 use Rattle.sim_base.specs.Machine.{next_step, run}
-use Rattle.sim_base.specs.declared.history.CoreStep.{CoreStep}
 use Rattle.sim_base.specs.declared.message.Message.{Message}
 use Rattle.sim_base.specs.declared.message.Request.{Request}
 use Rattle.sim_base.specs.declared.message.Unit.TheVariants.{Channel}
@@ -27,42 +24,14 @@ use Rattle.sim_base.specs.declared.trace.Entry.TheVariants.{Plain, Read, Write}
 use Rattle.sim_base.proofs.Arrived.{Each-by_age}
 use Rattle.sim_base.proofs.Ordered.{Each-weaker}
 use Rattle.sim_base.specs.declared.message.Access.TheVariants as access
-use Rattle.sim_base.proofs.Added.{length-push_suc}
 use Rattle.sim_base.proofs.Grows.{issued_before-push}
-use Rattle.statistics.proofs.CoreCounts.{issued_before-take-le, issue_cycle-push}
-use Rattle.statistics.proofs.Lists.{take-push}
+use Rattle.statistics.proofs.CoreCounts.{issue_cycle-push, issue_cycle-last}
 use Rattle.statistics.proofs.Replies.{length-steps_of_core, steps_of_core-push}
-use Rattle.laws.proofs.Chosen.{IfSome-weaker}
 use Rattle.laws.proofs.Receivers.{receiver_request, place_in, Each-filter_passes}
 use Rattle.laws.proofs.Sent.{Each-messages, messages-none, issues-each, commands-each, sends-each}
 use Rattle.request_table.specs.Requests.{arrival_of}
 use Rattle.laws.specs.Arrivals.{RequestsArriveAsIssued}
-
--- a test that all numbers below n pass, and n does not
-prefix_below : (p : ℕ → Bool) (n : ℕ) → ((k : ℕ) → k < n → p k ≡ true) → p n ≡ false → (m a : ℕ) → a + m ≡ n → prefix_len p (range_with_len a (suc m)) ≡ m
-prefix_below p n pass stop zero a e =
-    let here : a ≡ n = omega (arith, e) in
-    ap (λ b. cond b (1 + 0) 0) (ap p here ∙ stop)
-prefix_below p n pass stop (suc m) a e =
-    let more : 1 + m ≡ suc m = omega arith in
-    ap₂ (λ b k. cond b (1 + k) 0) (pass a (omega (arith, e))) (prefix_below p n pass stop m (a + 1) (omega (arith, e))) ∙ more
-
--- an entry that is issued in a cycle, and not before
-issue_cycle-new : (steps : List CoreStep) (core_step : CoreStep) (entry : ℕ) → issued_before steps ≤ entry → entry < issued_before (steps ++ core_step ∷ [])
-    → issue_cycle (steps ++ core_step ∷ []) entry ≡ length steps
-unfolding issue_cycle is_unissued_after
-issue_cycle-new steps core_step entry from until =
-    let all = steps ++ core_step ∷ [] in
-    let n = length steps in
-    let p = is_unissued_after all entry in
-    let long : length all ≡ suc n = length-push_suc steps core_step in
-    let pass : (k : ℕ) → k < n → p k ≡ true = λ k l.
-    ap (λ x. leb (issued_before x) entry) (take-push steps core_step (k + 1) (omega (arith, l))) ∙ le-leb _ _ (omega (arith, from, issued_before-take-le steps (k + 1))) in
-    let whole : take (n + 1) all ≡ all = ap (λ k. take k all) (add-one n ∙ sym long) ∙ take-length all in
-    let stop : p n ≡ false = ap (λ x. leb (issued_before x) entry) whole ∙ lt-leb _ _ until in
-    length-prefix_len p (below (length all))
-    ∙ ap (λ k. prefix_len p (below k)) long
-    ∙ prefix_below p n pass stop n 0 (zero-add n)
+use Rattle.std.proofs.lemmas.Option.{IfSome_then}
 
 -- a request says when its entry was issued, and travels on its link
 record DatedIn (s : Config) (history : List MachineStep) (m : Message) (r : Request) : Type 0 where
@@ -75,7 +44,7 @@ abbrev IsDated : Config → List MachineStep → Message → Type 0
 IsDated s history m = IfSome (request_in m.payload) (DatedIn s history m)
 
 dated-more : (s : Config) (history : List MachineStep) (machine_step : MachineStep) (m : Message) → IsDated s history m → IsDated s (history ++ machine_step ∷ []) m
-dated-more s history machine_step m h = IfSome-weaker _ _ (λ r k. more r k) (request_in m.payload) h
+dated-more s history machine_step m h = IfSome_then (request_in m.payload) h (λ r k. more r k)
   where
     more : (r : Request) → DatedIn s history m r → DatedIn s (history ++ machine_step ∷ []) m r
     more r k =
@@ -122,7 +91,7 @@ sends-dated s traces history =
     let from : issued_before steps ≤ entry = omega arith in
     request_of-dated s (history ++ machine_step ∷ []) c (length history) entry e
     (subst (λ x. entry < issued_before x) (sym more) until)
-    (ap (λ x. issue_cycle x entry) more ∙ issue_cycle-new steps one entry from until ∙ length-steps_of_core c history)))
+    (ap (λ x. issue_cycle x entry) more ∙ issue_cycle-last steps one entry from until ∙ length-steps_of_core c history)))
     (λ k l. commands-each P s k (length history) (λ source. tt) (λ access source. tt) (step_of_channel k machine_step))
 
 messages-dated : (s : Config) (traces : List (List Entry)) (n : ℕ) → Each (IsDated s (run s traces n)) (messages s traces (run s traces n))
@@ -154,5 +123,5 @@ requests_arrive_as_issued s traces n k l =
     let ms = filter (is_to s (Channel k)) (messages s traces history) in
     All-from_recursion P (by_age ms)
     (Each-by_age P ms
-    (Each-weaker _ P (λ m h. IfSome-weaker (DatedIn s history m) (ArrivesAsIssued s history k) (λ r i. to_channel s history k m r h.0 i) (request_in m.payload) h.1)
+    (Each-weaker _ P (λ m h. IfSome_then (request_in m.payload) h.1 (λ r i. to_channel s history k m r h.0 i))
     _ (Each-filter_passes (IsDated s history) (is_to s (Channel k)) (messages s traces history) (messages-dated s traces n))))

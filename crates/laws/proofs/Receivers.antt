@@ -10,7 +10,8 @@ use Rattle.sim_base.specs.Config.{request_link, reply_link, credit_link}
 use Rattle.sim_base.specs.Places.{field_of, place_of}
 use Rattle.sim_base.specs.History.{receiver}
 use Rattle.sim_base.specs.declared.message.Unit.TheVariants.{Core, Channel}
-use Rattle.sim_base.proofs.Added.{digit_below}
+use Rattle.sim_base.specs.declared.place.Field.TheVariants as field
+use Rattle.sim_base.proofs.Banks.{digit_below}
 use Rattle.sim_base.proofs.Grows.{has_channels}
 
 pub receiver_request : (s : Config) (c k : ℕ) → k < s.channels → receiver s (request_link s c k) ≡ Channel k
@@ -37,7 +38,7 @@ receiver_credit s c k l =
 -- an address lies in a channel of the machine
 pub place_in : (s : Config) (address : ℕ) → (place_of s address).channel < s.channels
 unfolding place_of field_of
-place_in s address = digit_below s s.fields _ (has_channels s)
+place_in s address = digit_below s field.Channel s.fields _ (has_channels s)
 
 -- what is left passes the test
 pub Each-filter_passes : {X : Type 0} (P : X → Type 0) (p : X → Bool) (xs : List X) → Each P xs → Each (λ x. (p x ≡ true) × P x) (filter p xs)

@@ -19,7 +19,7 @@ use Rattle.sim_base.proofs.Each.{Each-cons_option}
 use Rattle.request_table.specs.Served.{served_of, served_by, served_in, served_requests}
 use Rattle.request_table.specs.declared.served_requests.ServedRequest.{ServedRequest}
 use Rattle.request_table.specs.Requests.{arrival_of, replied_in, request_for, request_by, requests_of}
-use Rattle.request_table.specs.Tables.{AreServed, times_of}
+use Rattle.request_table.specs.Tables.{AreServedBetween, times_of}
 use Rattle.request_table.specs.declared.times.RequestTimes.{RequestTimes}
 use Rattle.request_table.proofs.Cutting.{served-earlier}
 use Rattle.laws.specs.Timed.{served_in_run, AreTimed}
@@ -88,29 +88,29 @@ in_cycle f h cycle k (None ∷ os) = in_cycle f h cycle (k + 1) os
 in_cycle f h cycle k (Some c ∷ os) =
     Each-cons_option (λ r. r.served ≡ cycle) (f (record { cycle = cycle; channel = k; command = c })) _ (h (record { cycle = cycle; channel = k; command = c })) (in_cycle f h cycle (k + 1) os)
 
-then-later : (cycle until : ℕ) (xs ys : List ServedRequest) → Each (λ r. r.served ≡ cycle) xs → cycle < until → AreServed (cycle + 1) until ys → AreServed cycle until (xs ++ ys)
+then-later : (cycle until : ℕ) (xs ys : List ServedRequest) → Each (λ r. r.served ≡ cycle) xs → cycle < until → AreServedBetween (cycle + 1) until ys → AreServedBetween cycle until (xs ++ ys)
 then-later cycle until [] ys h l k = served-earlier (cycle + 1) cycle until (omega arith) ys k
 then-later cycle until (x ∷ xs) ys h l k =
-    (omega (arith, h.0), omega (arith, h.0, l), subst (λ n. AreServed n until (xs ++ ys)) (sym h.0) (then-later cycle until xs ys h.1 l k))
+    (omega (arith, h.0), omega (arith, h.0, l), subst (λ n. AreServedBetween n until (xs ++ ys)) (sym h.0) (then-later cycle until xs ys h.1 l k))
 
 served-from : (f : IssuedCommand → Option ServedRequest) → KeepsCycles f → (cycle : ℕ) (history : List MachineStep)
-    → AreServed cycle (cycle + length history) (filter_map f (flat_map (λ (e : ℕ × MachineStep). commands_in e.0 e.1) (enumerate_from cycle history)))
+    → AreServedBetween cycle (cycle + length history) (filter_map f (flat_map (λ (e : ℕ × MachineStep). commands_in e.0 e.1) (enumerate_from cycle history)))
 served-from f h cycle [] = tt
 served-from f h cycle (machine_step ∷ history) =
     let rest = flat_map (λ (e : ℕ × MachineStep). commands_in e.0 e.1) (enumerate_from (cycle + 1) history) in
     let until : cycle + 1 + length history ≡ cycle + suc (length history) = omega arith in
-    subst (AreServed cycle (cycle + suc (length history))) (sym (filter_map-append f (commands_in cycle machine_step) rest))
+    subst (AreServedBetween cycle (cycle + suc (length history))) (sym (filter_map-append f (commands_in cycle machine_step) rest))
     (then-later cycle (cycle + suc (length history)) (filter_map f (commands_in cycle machine_step)) (filter_map f rest) (in_cycle f h cycle 0 machine_step.commands) (omega arith)
-    (subst (λ n. AreServed (cycle + 1) n (filter_map f rest)) until (served-from f h (cycle + 1) history)))
+    (subst (λ n. AreServedBetween (cycle + 1) n (filter_map f rest)) until (served-from f h (cycle + 1) history)))
 
 -- the requests that a run served stand by cycle
-pub are_by_cycle : (s : Config) (history : List MachineStep) → AreServed 0 (length history) (filter_map (served_in_run s history) (commands history))
+pub are_by_cycle : (s : Config) (history : List MachineStep) → AreServedBetween 0 (length history) (filter_map (served_in_run s history) (commands history))
 unfolding commands
 are_by_cycle s history =
     let all : 0 + length history ≡ length history = omega arith in
-    subst (λ n. AreServed 0 n (filter_map (served_in_run s history) (commands history))) all (served-from (served_in_run s history) (run-keeps s history) 0 history)
+    subst (λ n. AreServedBetween 0 n (filter_map (served_in_run s history) (commands history))) all (served-from (served_in_run s history) (run-keeps s history) 0 history)
 
-cons-served : (cycle until : ℕ) (o : Option ServedRequest) (ys : List ServedRequest) → IfSome o (λ r. r.served ≡ cycle) → cycle < until → AreServed (cycle + 1) until ys → AreServed cycle until (cons_option o ys)
+cons-served : (cycle until : ℕ) (o : Option ServedRequest) (ys : List ServedRequest) → IfSome o (λ r. r.served ≡ cycle) → cycle < until → AreServedBetween (cycle + 1) until ys → AreServedBetween cycle until (cons_option o ys)
 cons-served cycle until None ys h l k = served-earlier (cycle + 1) cycle until (omega arith) ys k
 cons-served cycle until (Some r) ys h l k = then-later cycle until (r ∷ []) ys (h, tt) l k
 
@@ -118,22 +118,22 @@ cons-served cycle until (Some r) ys h l k = then-later cycle until (r ∷ []) ys
 abbrev after : (IssuedCommand → Option ServedRequest) → ℕ → ℕ → List (Option Command) → List ServedRequest
 after f channel cycle steps = filter_map f (filter_map (λ (e : ℕ × Option Command). issued_at channel e.0 e.1) (enumerate_from cycle steps))
 
-channel-from : (f : IssuedCommand → Option ServedRequest) → KeepsCycles f → (channel cycle : ℕ) (steps : List (Option Command)) → AreServed cycle (cycle + length steps) (after f channel cycle steps)
+channel-from : (f : IssuedCommand → Option ServedRequest) → KeepsCycles f → (channel cycle : ℕ) (steps : List (Option Command)) → AreServedBetween cycle (cycle + length steps) (after f channel cycle steps)
 channel-from f h channel cycle [] = tt
 channel-from f h channel cycle (None ∷ steps) =
     let until : cycle + 1 + length steps ≡ cycle + suc (length steps) = omega arith in
     let rest = after f channel (cycle + 1) steps in
-    served-earlier (cycle + 1) cycle (cycle + suc (length steps)) (omega arith) rest (subst (λ n. AreServed (cycle + 1) n rest) until (channel-from f h channel (cycle + 1) steps))
+    served-earlier (cycle + 1) cycle (cycle + suc (length steps)) (omega arith) rest (subst (λ n. AreServedBetween (cycle + 1) n rest) until (channel-from f h channel (cycle + 1) steps))
 channel-from f h channel cycle (Some c ∷ steps) =
     let until : cycle + 1 + length steps ≡ cycle + suc (length steps) = omega arith in
     let rest = after f channel (cycle + 1) steps in
     let i : IssuedCommand = record { cycle = cycle; channel = channel; command = c } in
-    cons-served cycle (cycle + suc (length steps)) (f i) rest (h i) (omega arith) (subst (λ n. AreServed (cycle + 1) n rest) until (channel-from f h channel (cycle + 1) steps))
+    cons-served cycle (cycle + suc (length steps)) (f i) rest (h i) (omega arith) (subst (λ n. AreServedBetween (cycle + 1) n rest) until (channel-from f h channel (cycle + 1) steps))
 
 -- so do those that a channel served
-pub channel_by_cycle : (arrivals : Source → ℕ) (channel : ℕ) (steps : List (Option Command)) → AreServed 0 (length steps) (served_requests arrivals (issued_commands channel steps))
+pub channel_by_cycle : (arrivals : Source → ℕ) (channel : ℕ) (steps : List (Option Command)) → AreServedBetween 0 (length steps) (served_requests arrivals (issued_commands channel steps))
 unfolding served_requests issued_commands
 channel_by_cycle arrivals channel steps =
     let all : 0 + length steps ≡ length steps = omega arith in
-    subst (λ n. AreServed 0 n (served_requests arrivals (issued_commands channel steps))) all
+    subst (λ n. AreServedBetween 0 n (served_requests arrivals (issued_commands channel steps))) all
     (channel-from (served_in arrivals (issued_commands channel steps)) (λ i. served-then arrivals _ i.channel i.cycle i.command) channel 0 steps)

@@ -32,10 +32,11 @@ use Rattle.sim_base.proofs.Ordered.{Each-weaker}
 use Rattle.sim_base.proofs.Accesses.{column_both}
 use Rattle.laws.specs.Messages.{memory_entry}
 use Rattle.laws.specs.Commands.{channel_steps_of, history_of}
-use Rattle.laws.proofs.Chosen.{IfSome-weaker, choice-needed}
+use Rattle.laws.proofs.Chosen.{choice-needed}
 use Rattle.laws.proofs.Legal.{chosen, length-channel_steps_of}
 use Rattle.laws.proofs.Receivers.{receiver_request, place_in, Each-filter_passes}
 use Rattle.laws.proofs.Sent.{Each-messages, messages-none, issues-each, commands-each, sends-each}
+use Rattle.std.proofs.lemmas.Option.{IfSome_then}
 
 -- a request is that of an entry which its core has issued
 pub record Traced (s : Config) (traces : List (List Entry)) (history : List MachineStep) (r : Request) : Type 0 where
@@ -58,7 +59,7 @@ unfolding steps_of_core
 issued-more history machine_step c = ap issued_before (map-append (step_of_core c) history (machine_step ∷ [])) ∙ issued_before-push (steps_of_core c history) (step_of_core c machine_step)
 
 traced-more : (s : Config) (traces : List (List Entry)) (history : List MachineStep) (machine_step : MachineStep) (m : Message) → IsTraced s traces history m → IsTraced s traces (history ++ machine_step ∷ []) m
-traced-more s traces history machine_step m h = IfSome-weaker _ _ (λ r k. more r k) (request_in m.payload) h
+traced-more s traces history machine_step m h = IfSome_then (request_in m.payload) h (λ r k. more r k)
   where
     more : (r : Request) → TracedIn s traces history m r → TracedIn s traces (history ++ machine_step ∷ []) m r
     more r k =
@@ -113,7 +114,7 @@ inbox-traced s traces n k =
     let history = run s traces n in
     Each-by_age _ _
     (Each-weaker _ (λ (m : Message). IfSome (request_in m.payload) (IsTracedTo s traces history k))
-    (λ m h. IfSome-weaker (TracedIn s traces history m) (IsTracedTo s traces history k) (λ r i. (i.traced, to m r h.0 i)) (request_in m.payload) h.1)
+    (λ m h. IfSome_then (request_in m.payload) h.1 (λ r i. (i.traced, to m r h.0 i)))
     _ (Each-filter_passes (IsTraced s traces history) (is_to s (Channel k)) (messages s traces history) (messages-traced s traces n)))
   where
     to : (m : Message) (r : Request) → is_to s (Channel k) m ≡ true → TracedIn s traces (run s traces n) m r → r.place.channel ≡ k

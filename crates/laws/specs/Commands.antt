@@ -1,7 +1,7 @@
 -- What holds of the commands of a run.
---     channel_steps_of s traces n channel      what a channel does in the first n cycles of a run, one command or none per cycle
+--     channel_steps_of s traces n channel      what a channel does in the first n cycles, one command or none per cycle
 --     history_of s traces n channel      its commands, each with its cycle
---     CommandsAreLegal s traces n      each command is legal in its cycle, over those of its channel in the cycles before it
+--     CommandsAreLegal s traces n      each command is legal in its cycle, over those of its channel in earlier cycles
 --     HistoriesAreLegal s traces n      each command is legal over those that stand before it in its channel's history
 --     CyclesAscend s traces n      a channel's commands stand by cycle, at most one in each
 use Rattle.std.specs.Prelude.{◌≡◌, ℕ, ◌<◌, IsTrue, List, length, take, slice_index_or, Option, Some, None}

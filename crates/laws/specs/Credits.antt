@@ -1,6 +1,6 @@
 -- The credits of a run, and the queues that they bound.
---     requests_sent_count s traces n core channel access      the requests of an access that a core sent to a channel in the first n cycles
---     credits_back s traces n core channel access      the credits for it that came back to it from there before cycle n
+--     requests_sent_count s traces n core channel access      the reads or writes that a core sent to a channel
+--     credits_back s traces n core channel access      the credits for them that came back before cycle n
 --     CreditsAreNeverOverspent s traces n      a core sends no more than its cap and what came back allow
 --     CreditsComeBackOnce s traces n      no more comes back than was sent
 --     QueuesAreBounded s traces n      no channel's queue has more requests than the cores have credits for it
@@ -31,7 +31,8 @@ credits_back s traces n core channel access =
 abbrev pub CreditsAreNeverOverspent : Config → List (List Entry) → ℕ → Type 0
 CreditsAreNeverOverspent s traces n =
     (core channel : ℕ) (access : Access) → core < s.cores → channel < s.channels →
-    requests_sent_count s traces n core channel access ≤ credit_cap s access + credits_back s traces n core channel access
+    requests_sent_count s traces n core channel access
+    ≤ credit_cap s access + credits_back s traces n core channel access
 
 -- no more credits for an access come back than there were requests, so a core never holds more than at first
 abbrev pub CreditsComeBackOnce : Config → List (List Entry) → ℕ → Type 0

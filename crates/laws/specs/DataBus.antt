@@ -1,7 +1,7 @@
 -- The data bus of a channel. A RD has its data on the bus in the four cycles that begin nCL cycles after it, and a WR
 -- in the four that begin nCWL cycles after it.
 --     has_data_in t cycle i      a command has data on the bus in a cycle
---     DataBusIsShared s traces n      in no cycle do two commands of a channel have data on its bus
+--     BurstsDoNotOverlap s traces n      in no cycle do two commands of a channel have data on its bus
 use Rattle.std.specs.Prelude.{ℕ, ◌+◌, ◌<◌, ◌≤◌, nat_lt, nat_le, Bool, false, ◌&&◌, List, count_by}
 use Rattle.sim_base.specs.declared.config.Config.{Config}
 use Rattle.sim_base.specs.declared.timing.Timing.{Timing}
@@ -29,7 +29,7 @@ abbrev pub has_data_in : Timing → ℕ → IssuedCommand → Bool
 has_data_in t cycle i = moves_data_in t cycle i.cycle i.command
 
 -- in no cycle do two commands of a channel have data on its bus
-abbrev pub DataBusIsShared : Config → List (List Entry) → ℕ → Type 0
-DataBusIsShared s traces n =
+abbrev pub BurstsDoNotOverlap : Config → List (List Entry) → ℕ → Type 0
+BurstsDoNotOverlap s traces n =
     (channel cycle : ℕ) → channel < s.channels
     → count_by (has_data_in s.timing cycle) (history_of s traces n channel) ≤ 1

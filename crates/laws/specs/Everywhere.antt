@@ -2,7 +2,7 @@
 --     InEachRun P      it holds of each machine and its traces
 --     InEachCycle P      and before each cycle of the run
 --     InEachSpan P      and over each span of it
---     InEachTurn P      it holds where the cores stand at one cycle and the channels at another, and one kind goes on up to a third
+--     InEachTurn P      it holds where cores stand at one cycle, channels at another, and one kind goes on to a third
 use Rattle.std.specs.Prelude.{ℕ, List}
 use Rattle.sim_base.specs.declared.config.Config.{Config}
 use Rattle.sim_base.specs.declared.trace.Entry.{Entry}

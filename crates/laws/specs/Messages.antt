@@ -1,9 +1,10 @@
 -- What the messages of a run say.
 --     is_request_of core entry payload      a request of this entry of this core
 --     RequestsAreSentOnce s traces n      no entry is requested twice
---     IsRequestTo s traces history channel m r      a message carries a request to a channel, as the trace of its core has it
+--     IsRequestTo s traces history channel m r      a message carries a request to a channel, as the trace has it
 --     RequestsFit s traces n      each message to a channel carries such a request
---     FitsCore s core link payload, AnswersFit s traces n      each message to a core is a reply or a credit of a channel, on its link
+--     FitsCore s core link payload      a message to a core is a reply or a credit of a channel, on its link
+--     AnswersFit s traces n      each message to a core is such a reply or credit
 use Rattle.std.specs.Prelude.{◌≡◌, ℕ, ◌<◌, ◌≤◌, ◌==◌, Bool, false, ◌&&◌, List, slice_get, count_by, All, Some, IsSomeAnd}
 use Rattle.sim_base.specs.declared.message.Access.{Access}
 use Rattle.sim_base.specs.declared.message.Access.TheVariants as access
@@ -40,7 +41,8 @@ memory_entry access.Write address = Write address
 
 -- a message carries this request to a channel: that of an entry which its core has issued, with the entry's kind and
 -- address
-pub record IsRequestTo (s : Config) (traces : List (List Entry)) (history : List MachineStep) (channel : ℕ) (m : Message) (r : Request) : Type 0 where
+pub record IsRequestTo (s : Config) (traces : List (List Entry)) (history : List MachineStep) (channel : ℕ)
+    (m : Message) (r : Request) : Type 0 where
   pub core : r.core < s.cores
   pub entry : slice_get (trace_of traces r.core) r.entry ≡ Some (memory_entry r.access r.address)
   pub issued : r.entry < issued_before (steps_of_core r.core history)

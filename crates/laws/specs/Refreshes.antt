@@ -1,6 +1,6 @@
 -- The refreshes of a run.
 --     refreshes_by s traces n channel rank cycle      the REFs of a rank by the end of a cycle
---     RefreshesAreInTime s traces n      a rank's REF for each interval of nREFI cycles comes no later than the slack after its end
+--     RefreshesAreInTime s traces n      a rank's REF for each nREFI interval comes at most the slack after its end
 --     RefreshesAreNotEarly s traces n      and not before its end
 --     RefreshesAreWanted s traces n      there are none where the configuration has none
 use Rattle.std.specs.Prelude.{◌≡◌, ℕ, ◌+◌, ◌*◌, ◌<◌, ◌≤◌, List, take, count_by}

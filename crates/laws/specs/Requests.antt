@@ -77,5 +77,6 @@ abbrev pub CommandsNameTheQueue : Config → List (List Entry) → ℕ → Type 
 CommandsNameTheQueue s traces n =
     (channel cycle : ℕ) (command : Command) → channel < s.channels → cycle < n →
     slice_index_or (channel_steps_of s traces n channel) cycle None ≡ Some command →
-    let queue = queue_in channel (channel_steps_of s traces n channel) (inbox s traces (run s traces n) (Channel channel)) cycle in
+    let queue = queue_in channel (channel_steps_of s traces n channel)
+    (inbox s traces (run s traces n) (Channel channel)) cycle in
     IfSome (source_in command) (λ source. (r : Request) × Contains queue r × (source ≡ source_of r))

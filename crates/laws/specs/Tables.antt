@@ -1,5 +1,4 @@
 -- What holds of the table of all commands of a run, by cycle and then by channel.
---     stands_before a b      a row is of an earlier cycle, or of the same and of a lower channel
 --     IsOrdered table      each row stands before those after it
 --     IsLegalTable s table      each row keeps the rules over the rows of its channel before it
 --     IsRefreshedTable s table      no row comes while a refresh of its channel is overdue
@@ -31,7 +30,8 @@ abbrev pub IsRefreshedTable : Config → List IssuedCommand → Type 0
 IsRefreshedTable s table =
     (i : ℕ) (d : IssuedCommand) (rank : ℕ) → i < length table → rank < s.ranks → 0 < s.timing.n_refi →
     let row = slice_index_or table i d in
-    row.cycle ≤ (count_by (λ r. refreshes rank r.command) (commands_on row.channel (take i table)) + 1) * s.timing.n_refi
+    row.cycle
+    ≤ (count_by (λ r. refreshes rank r.command) (commands_on row.channel (take i table)) + 1) * s.timing.n_refi
     + refresh_slack s
 
 -- the table of a run is ordered

@@ -1,7 +1,8 @@
 -- What the rows of the table of requests add up to.
---     rows_of_core s history core, rows_of_channel s history channel      the requests of one core, or of one channel, among those of a history
---     CoreAddsUp s traces n core      the rows of a core have as many replies, and waited as long, as its statistics say
---     ChannelAddsUp s traces n channel      the rows of a channel are as many reads, writes and hits as its statistics say
+--     rows_of_core s history core      the requests of one core among those of a history
+--     rows_of_channel s history channel      the requests of one channel among those of a history
+--     CoreAddsUp s traces n core      the rows of a core have the replies and the latency that its statistics say
+--     ChannelAddsUp s traces n channel      the rows of a channel have the reads, writes and hits of its statistics
 use Rattle.std.specs.Prelude.{◌≡◌, ℕ, ◌==◌, List, filter, count_by, sum_by, is_some}
 use Rattle.sim_base.specs.Access.{is_access}
 use Rattle.sim_base.specs.declared.config.Config.{Config}

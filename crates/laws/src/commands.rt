@@ -3,7 +3,7 @@
 ghost use Rattle.laws.specs.Everywhere.{InEachCycle};
 ghost use Rattle.laws.specs.Commands.{CommandsAreLegal, HistoriesAreLegal, CyclesAscend};
 ghost use Rattle.laws.specs.Tables.{TablesAreOrdered, TablesAreLegal, TablesAreRefreshed};
-ghost use Rattle.laws.specs.DataBus.{DataBusIsShared};
+ghost use Rattle.laws.specs.DataBus.{BurstsDoNotOverlap};
 
 /// Each command of a run keeps the rules of DDR4 over the commands of its channel before it, and a channel issues at
 /// most one in a cycle.
@@ -22,6 +22,6 @@ pub fn tables_keep_the_rules()
 {}
 
 /// No cycle of a channel's data bus belongs to two commands.
-pub fn data_bus_is_shared()
-    ensures { InEachCycle DataBusIsShared }
+pub fn bursts_do_not_overlap()
+    ensures { InEachCycle BurstsDoNotOverlap }
 {}

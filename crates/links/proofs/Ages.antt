@@ -1,6 +1,6 @@
 -- Messages by age: two that differ in arrival or link can be put in in either order, and a list in order stays as it
 -- is.
-use Rattle.std.proofs.Common.{◌≡◌, ℕ, ◌≤◌, ltb, ◌||◌, Bool, true, false, ◌&&◌, eqb, List, [], ◌∷◌, ◌++◌, refl, sym, ap, ◌∙◌, subst, append-nil, append_assoc, arith}
+use Rattle.std.proofs.Common.{◌≡◌, ℕ, ◌≤◌, ltb, ◌||◌, Bool, true, false, List, [], ◌∷◌, ◌++◌, refl, sym, ap, ◌∙◌, subst, append-nil, append_assoc, arith}
 use Rattle.std.specs.Prelude.{filter, slice_get, All, IfSome}
 use Rattle.std.specs.Option.{option_map}
 use Rattle.std.proofs.lemmas.List.Elements.{All-from_recursion}
@@ -11,45 +11,26 @@ use Rattle.sim_base.specs.History.{is_before, by_age}
 use Rattle.sim_base.specs.declared.message.Message.{Message}
 use Rattle.sim_base.proofs.Arrived.{put, puts, by_age-puts}
 use Rattle.sim_base.proofs.Each.{Each-append}
-use Rattle.sim_base.proofs.Ordered.{Each-weaker, Sorted, Sorted-puts, filter-by_age, put-before, Sorted-put}
-
--- two messages with one arrival and one link
-abbrev pub is_tie : Message → Message → Bool
-is_tie a b = eqb a.arrival b.arrival && eqb a.link b.link
-
-before_back : (a b : Message) → is_tie a b ≡ false → is_before a b ≡ false → is_before b a ≡ true
-before_back a b h k = grind (arith, nat_tests)
-
-pub put-put : (m n : Message) (ns : List Message) → is_tie m n ≡ false → put m (put n ns) ≡ put n (put m ns)
-put-put m n ns h = by (is_before m n) refl
-  where
-    by : (b : Bool) → is_before m n ≡ b → put m (put n ns) ≡ put n (put m ns)
-    by true e = put-before m n ns e
-    by false e = sym (put-before n m ns (before_back m n h e))
-
--- a message can be put in before others that it does not tie with, or after them
-pub puts-put : (m : Message) (acc ys : List Message) → Each (λ (y : Message). is_tie m y ≡ false) ys → puts (put m acc) ys ≡ put m (puts acc ys)
-puts-put m acc [] h = refl
-puts-put m acc (y ∷ ys) h = ap (λ x. puts x ys) (sym (put-put m y acc h.0)) ∙ puts-put m (put y acc) ys h.1
+use Rattle.sim_base.proofs.Ordered.{Each-weaker, Sorted, Sorted-puts, filter-by_age, Sorted-put, is_tie, puts-put}
 
 put-last : (m : Message) (acc : List Message) → Each (λ (a : Message). is_before m a ≡ false) acc → put m acc ≡ acc ++ m ∷ []
 put-last m [] h = refl
 put-last m (a ∷ acc) h = cond-false _ _ _ h.0 ∙ ap (λ x. a ∷ x) (put-last m acc h.1)
 
 -- none of some messages is before one of others
-abbrev NotBefore : List Message → List Message → Type 0
-NotBefore acc ys = Each (λ (y : Message). Each (λ (a : Message). is_before y a ≡ false) acc) ys
+abbrev NoneBefore : List Message → List Message → Type 0
+NoneBefore acc ys = Each (λ (y : Message). Each (λ (a : Message). is_before y a ≡ false) acc) ys
 
-NotBefore-push : (acc : List Message) (m : Message) (ys : List Message) → NotBefore acc ys → Each (λ (y : Message). is_before y m ≡ false) ys → NotBefore (acc ++ m ∷ []) ys
-NotBefore-push acc m [] h k = tt
-NotBefore-push acc m (y ∷ ys) h k = (Each-append (λ (a : Message). is_before y a ≡ false) acc (m ∷ []) h.0 (k.0, tt), NotBefore-push acc m ys h.1 k.1)
+NoneBefore-push : (acc : List Message) (m : Message) (ys : List Message) → NoneBefore acc ys → Each (λ (y : Message). is_before y m ≡ false) ys → NoneBefore (acc ++ m ∷ []) ys
+NoneBefore-push acc m [] h k = tt
+NoneBefore-push acc m (y ∷ ys) h k = (Each-append (λ (a : Message). is_before y a ≡ false) acc (m ∷ []) h.0 (k.0, tt), NoneBefore-push acc m ys h.1 k.1)
 
-puts-last : (acc ys : List Message) → Sorted ys → NotBefore acc ys → puts acc ys ≡ acc ++ ys
+puts-last : (acc ys : List Message) → Sorted ys → NoneBefore acc ys → puts acc ys ≡ acc ++ ys
 puts-last acc [] h k = sym (append-nil acc)
 puts-last acc (y ∷ ys) h k =
-    ap (λ x. puts x ys) (put-last y acc k.0) ∙ puts-last (acc ++ y ∷ []) ys h.1 (NotBefore-push acc y ys k.1 h.0) ∙ append_assoc acc (y ∷ []) ys
+    ap (λ x. puts x ys) (put-last y acc k.0) ∙ puts-last (acc ++ y ∷ []) ys h.1 (NoneBefore-push acc y ys k.1 h.0) ∙ append_assoc acc (y ∷ []) ys
 
-no_past : (ys : List Message) → NotBefore [] ys
+no_past : (ys : List Message) → NoneBefore [] ys
 no_past [] = tt
 no_past (y ∷ ys) = (tt, no_past ys)
 

@@ -15,9 +15,9 @@ use Rattle.sim_base.specs.declared.message.Unit.TheVariants.{Core, Channel}
 use Rattle.sim_base.proofs.Arrived.{put, puts, by_age-puts, Each-put}
 use Rattle.sim_base.proofs.Each.{Each-append, Each-filter}
 use Rattle.sim_base.proofs.Lists.{filter-agree, filter-both}
-use Rattle.sim_base.proofs.Ordered.{Each-weaker, puts-append, filter-by_age}
+use Rattle.sim_base.proofs.Ordered.{Each-weaker, puts-append, filter-by_age, is_tie}
 use Rattle.links.specs.Rings.{ring_of, ring_to, ring_if_any, joined, IsRing, AreRings}
-use Rattle.links.proofs.Ages.{is_tie, in_order-Sorted, by_age-nil, by_age-twice, put-in_order, filter-in_order, puts-put_first}
+use Rattle.links.proofs.Ages.{in_order-Sorted, by_age-nil, by_age-twice, put-in_order, filter-in_order, puts-put_first}
 use Rattle.links.proofs.Merging.{by_age-merge}
 
 channel_found : (ch b n : ℕ) → cond (ltb b ch) (Some b) None ≡ Some n → (b < ch) × (b ≡ n)

@@ -8,7 +8,7 @@ use Rattle.std.proofs.lemmas.List.Elements.{recursion_from_All}
 use Rattle.sim_base.specs.declared.config.Config.{Config}
 use Rattle.sim_base.specs.declared.overrides.Override.{Override}
 use Rattle.sim_base.specs.Config.{latency}
-use Rattle.sim_base.proofs.Added.{link_below}
+use Rattle.sim_base.proofs.LinkNumbers.{link_below}
 use Rattle.sim_base.proofs.Each.{IfSome-find}
 use Rattle.links.specs.Latencies.{has_usual, least_own_of, least_of_kind, SomeLinkTakes}
 use Rattle.links.proofs.Overrides.{is_of, is_kind, kind_latency, least_from-each, find_none, latency_free, latency_own, latency_in_range, found_least, usual_link, usual_counts}

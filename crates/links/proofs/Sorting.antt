@@ -7,7 +7,7 @@ use Rattle.std.specs.Prelude.{fold}
 use Rattle.sim_base.specs.History.{insert_by_age}
 use Rattle.sim_base.specs.declared.message.Message.{Message}
 use Rattle.sim_base.proofs.Arrived.{put, puts, fold-puts}
-use Rattle.links.proofs.Ages.{is_tie, put-put}
+use Rattle.sim_base.proofs.Ordered.{is_tie, put-put}
 
 -- two messages that arrive together, as the clause of the sort tests it
 abbrev together : Message → Message → Bool

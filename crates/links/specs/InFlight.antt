@@ -1,6 +1,5 @@
 -- The messages in flight.
 --     InFlight      the messages, and how many channels the machine has
---     receiver_of channels link      the unit that a link leads to
 --     arrives_before until m      a message arrives before a cycle
 --     is_due channels unit from until m      a message that arrives at a unit within a span
 --     is_due_before channels unit until m      a message that arrives at a unit before a cycle
@@ -51,9 +50,10 @@ with_sent flight ms = record flight { messages = fold insert_by_age flight.messa
 abbrev pub due_before : InFlight → MachineUnit → ℕ → List Message
 due_before flight unit until = filter (is_due_before flight.channels unit until) flight.messages
 
--- what is in flight after that has been taken out
+-- what is in flight once what arrives at a unit before a cycle is taken out
 abbrev pub without_due : InFlight → MachineUnit → ℕ → InFlight
-without_due flight unit until = record flight { messages = filter (λ m. not (is_due_before flight.channels unit until m)) flight.messages }
+without_due flight unit until =
+    record flight { messages = filter (λ m. not (is_due_before flight.channels unit until m)) flight.messages }
 
 -- what is in flight to a unit, by age
 abbrev pub in_flight_to : InFlight → MachineUnit → List Message

@@ -1,13 +1,13 @@
 -- The messages in flight in rings: first one for each channel, then two for each core, of replies and of credits.
 --     ring_of channels link      the number of the ring of a link's messages
 --     ring_to channels m      the number of the ring that a message goes to
---     ring_if_any channels unit      the number of a unit's first ring, if the machine has the unit
+--     ring_if_any channels unit      the number of a unit's first ring, unless it is a channel that does not exist
 --     AreNumbers channels numbers      the numbers of the rings of the first links
 --     HasRingNumbers channels numbers      they are those of a machine that has a channel
 --     contents rings      what stands in each ring
 --     joined rings      what stands in all of them, ring by ring
---     messages_in rings      the messages in all rings, by age
---     messages_at rings number      the messages in one ring
+--     ring_messages rings      the messages in all rings, by age
+--     ring_messages_at rings number      the messages in one ring
 --     IsByAge ms      messages stand by age
 --     AreRings channels first rings      each ring holds messages that go to it, by age
 --     AreInRings channels numbers rings      what holds of the messages in flight on the links of a machine
@@ -17,7 +17,7 @@
 --     head_of until ms      those at the head that arrive before a cycle
 --     head_from until start ms, behind_head until ms      those of them from a place on, and what stands behind them
 --     merged_due until first second      what arrives before a cycle in two rings, by age
---     merged_heads until first second      what stands at their heads and does
+--     merged_heads until first second      what stands at the heads of two rings and arrives before a cycle, by age
 --     due_in until rings number      what arrives before a cycle in the ring with a number
 --     due_in_both until rings number      what arrives before it in that ring and in the one behind it
 --     left_in until rings number, left_both until rings number      what stands in each ring when that is taken out
@@ -29,17 +29,17 @@
 --     CanTakeUp channels rings ms      each ring has room for those of some messages that go to it
 --     HaveRoomForAll channels rings ms      the ring of each message has room for all of them
 --     HaveCountedRoom rings counts      each ring has room for as many further messages as its count says
---     HoldSame old new      the same messages, ring by ring
---     HaveGained old new ms      the same messages, and some more
+--     HoldSame old new      the rings hold the messages that they held, ring by ring
+--     HaveGained old new ms      the rings hold the messages that they held, and these
 --     JoinAlike old new      two lists that are the same once they are put among other messages
---     Grows old new      the same messages, with more room
+--     Grows old new      the rings hold the messages that they held, and have no less room
 --     IsYoungerBefore ms place m y      the message before a place, and it is younger than another
---     HasYoungerBefore ms place m      some message stands before the place, and it is younger than another
---     NoneYoungerBefore ms place m      no younger one stands before the place
+--     HasYoungerBefore ms place m      the message directly before a place is younger than another
+--     NoneYoungerBefore ms place m      the message directly before a place, if any, is not younger than another
 --     IsInserted m old new      a message is put among others by age, of which the last was younger and stood twice
 --     is_younger_last m ms      the last of some messages is younger than another
 --     HasArrived ms place until m      the message at a place, and it arrives before a cycle
---     HasNotArrived ms place until      no message at the place does
+--     HasNotArrived ms place until      no message at the place arrives before a cycle
 use Rattle.std.specs.Prelude.{◌≡◌, ℕ, ◌+◌, ◌*◌, ◌-◌, ◌/◌, ◌%◌, ◌==◌, ◌^◌, ◌<◌, ◌≤◌, nat_lt, Bool, true, false, not, filter, count_by, fold, take_while, drop, slice_get, slice_set, List, [], ◌∷◌, ◌++◌, length, map, min, slice_index_or, vec_len, vec_capacity, Option, Some, None, if◌then◌else◌}
 use Rattle.std.specs.declared.vec.Vec.{Vec}
 use Rattle.std.specs.declared.alloc.Global.{Global}
@@ -92,12 +92,12 @@ joined [] = []
 joined (ms ∷ rest) = ms ++ joined rest
 
 -- the messages in all rings, by age
-abbrev pub messages_in : List (Buffer Message) → List Message
-messages_in rings = by_age (joined (contents rings))
+abbrev pub ring_messages : List (Buffer Message) → List Message
+ring_messages rings = by_age (joined (contents rings))
 
 -- the messages in the ring with a number; none, where there is no such ring
-abbrev pub messages_at : List (Buffer Message) → ℕ → List Message
-messages_at rings number = ring_at (contents rings) number
+abbrev pub ring_messages_at : List (Buffer Message) → ℕ → List Message
+ring_messages_at rings number = ring_at (contents rings) number
 
 -- messages that stand by age
 abbrev pub IsByAge : List Message → Type 0
@@ -162,13 +162,13 @@ HaveRoom channels rings more ms = AllByRecursion (λ m. HasRoom rings (ring_to c
 abbrev pub HaveRoomForAll : ℕ → List (Buffer Message) → List Message → Type 0
 HaveRoomForAll channels rings ms = HaveRoom channels rings (length ms) ms
 
--- the same messages in the same order, ring by ring
+-- the rings hold the messages that they held, in the same order, read ring by ring
 abbrev pub HoldSame : List (Buffer Message) → List (Buffer Message) → Type 0
 HoldSame old new = joined (contents new) ≡ joined (contents old)
 
 -- the rings hold what they held, and these messages, by age
 abbrev pub HaveGained : List (Buffer Message) → List (Buffer Message) → List Message → Type 0
-HaveGained old new ms = messages_in new ≡ fold insert_by_age (messages_in old) ms
+HaveGained old new ms = ring_messages new ≡ fold insert_by_age (ring_messages old) ms
 
 -- put one after the other among any other messages, the two lists come to the same
 abbrev pub JoinAlike : List Message → List Message → Type 0
@@ -220,7 +220,7 @@ merged_heads until first second = fold insert_by_age (head_of until first.items)
 
 -- what arrives before a cycle in a ring
 abbrev pub due_in : ℕ → List (Buffer Message) → ℕ → List Message
-due_in until rings number = due_of until (messages_at rings number)
+due_in until rings number = due_of until (ring_messages_at rings number)
 
 -- what arrives before a cycle in a ring and in the one behind it, by age
 abbrev pub due_in_both : ℕ → List (Buffer Message) → ℕ → List Message
@@ -228,23 +228,23 @@ due_in_both until rings number = fold insert_by_age (due_in until rings number) 
 
 -- what stands in each ring once what arrives before a cycle is taken out of one of them
 abbrev pub left_in : ℕ → List (Buffer Message) → ℕ → List (List Message)
-left_in until rings number = slice_set (contents rings) number (later_of until (messages_at rings number))
+left_in until rings number = slice_set (contents rings) number (later_of until (ring_messages_at rings number))
 
--- and once it is taken out of the one behind it as well
+-- what stands in each ring once what arrives before a cycle is taken out of one of them and of the one behind it
 abbrev pub left_both : ℕ → List (Buffer Message) → ℕ → List (List Message)
 left_both until rings number =
-    slice_set (left_in until rings number) (number + 1) (later_of until (messages_at rings (number + 1)))
+    slice_set (left_in until rings number) (number + 1) (later_of until (ring_messages_at rings (number + 1)))
 
--- this message stands before a place, and it is younger than another
+-- this message stands directly before a place, and it is younger than another
 abbrev pub IsYoungerBefore : List Message → ℕ → Message → Message → Type 0
 IsYoungerBefore ms place m y =
     (0 < place) × (place ≤ length ms) × (slice_index_or ms (place - 1) y ≡ y) × (is_before m y ≡ true)
 
--- the message before a place is younger than another
+-- the message directly before a place is younger than another
 abbrev pub HasYoungerBefore : List Message → ℕ → Message → Type 0
 HasYoungerBefore ms place m = (0 < place) × (is_before m (slice_index_or ms (place - 1) m) ≡ true)
 
--- no message that is younger than this one stands before the place
+-- the message directly before a place, if there is one, is not younger than this one
 abbrev pub NoneYoungerBefore : List Message → ℕ → Message → Type 0
 NoneYoungerBefore ms place m = 0 < place → place ≤ length ms → is_before m (slice_index_or ms (place - 1) m) ≡ false
 
@@ -263,6 +263,6 @@ is_younger_last m ms = option_map_or (is_before m) (slice_get ms (length ms - 1)
 abbrev pub HasArrived : List Message → ℕ → ℕ → Message → Type 0
 HasArrived ms place until m = (place < length ms) × (slice_index_or ms place m ≡ m) × (m.arrival < until)
 
--- no message at the place does
+-- no message at a place arrives before a cycle
 abbrev pub HasNotArrived : List Message → ℕ → ℕ → Type 0
 HasNotArrived ms place until = (d : Message) → place < length ms → until ≤ (slice_index_or ms place d).arrival

@@ -4,7 +4,7 @@ ghost use Rattle.std.specs.Prelude.{◌≡◌, ◌+◌, ◌<◌, ◌^◌, ◌≤
 ghost use Rattle.std.specs.List.{list_all};
 ghost use Rattle.std.specs.List.Sorted.{IsPermutation};
 ghost use Rattle.links.specs.InFlight.{nothing_in_flight, with_sent, due_before, without_due, in_flight_to, first_arrival, NoneArrivesBefore, SomeAt};
-ghost use Rattle.links.specs.Rings.{ring_of, ring_if_any, contents, messages_in, messages_at, IsByAge, earlier_arrival, due_in, due_in_both, left_in, left_both, AreRings, HasRoom, HaveRoomForAll, AreNumbers, HasRingNumbers, AreCounts, IsOneMore, HaveCountedRoom, CanTakeUp, HoldSame, HaveGained, JoinAlike, Grows};
+ghost use Rattle.links.specs.Rings.{ring_of, ring_if_any, contents, ring_messages, ring_messages_at, IsByAge, earlier_arrival, due_in, due_in_both, left_in, left_both, AreRings, HasRoom, HaveRoomForAll, AreNumbers, HasRingNumbers, AreCounts, IsOneMore, HaveCountedRoom, CanTakeUp, HoldSame, HaveGained, JoinAlike, Grows};
 
 use crate::merge::{copy_heads, messages_of};
 use crate::rings::{Ring, drop_first, first_arrival, make_room, put_by_age, take_before};
@@ -39,11 +39,11 @@ pub struct Links {
 
 impl Model for Links {
     ghost use Rattle.links.specs.InFlight.{InFlight};
-    ghost use Rattle.links.specs.Rings.{messages_in, AreInRings};
+    ghost use Rattle.links.specs.Rings.{ring_messages, AreInRings};
 
     ghost Value = { InFlight };
 
-    ghost view = { λ l. record { channels = l.channels; messages = messages_in l.rings.items } };
+    ghost view = { λ l. record { channels = l.channels; messages = ring_messages l.rings.items } };
 
     ghost invariant = { λ l. AreInRings l.channels l.numbers.items l.rings.items };
 }
@@ -353,7 +353,7 @@ fn take_from(
     inbox: &mut Vec<Message>,
 ) -> Result<(), AllocError>
     requires empty { inbox.old.items ≡ [] }
-    requires in_order { IsByAge (messages_at rings.old.items number) }
+    requires in_order { IsByAge (ring_messages_at rings.old.items number) }
     ensures taken { OnOk result (inbox.new.items ≡ due_in until rings.old.items number) }
     ensures rest { OnOk result (contents rings.new.items ≡ left_in until rings.old.items number) }
     ensures err { OnErr result (contents rings.new.items ≡ contents rings.old.items) }
@@ -376,8 +376,8 @@ fn take_heads(
     requires small { number + 1 < 2 ^ 64 }
     requires exist { number + 1 < length rings.old.items }
     requires empty { inbox.old.items ≡ [] }
-    requires first { IsByAge (messages_at rings.old.items number) }
-    requires second { IsByAge (messages_at rings.old.items (number + 1)) }
+    requires first { IsByAge (ring_messages_at rings.old.items number) }
+    requires second { IsByAge (ring_messages_at rings.old.items (number + 1)) }
     ensures taken { OnOk result (inbox.new.items ≡ due_in_both until rings.old.items number) }
     ensures rest { OnOk result (contents rings.new.items ≡ left_both until rings.old.items number) }
     ensures err { OnErr result (contents rings.new.items ≡ contents rings.old.items) }
@@ -399,7 +399,7 @@ fn take_from_last(
     inbox: &mut Vec<Message>,
 ) -> Result<(), AllocError>
     requires empty { inbox.old.items ≡ [] }
-    requires in_order { IsByAge (messages_at rings.old.items number) }
+    requires in_order { IsByAge (ring_messages_at rings.old.items number) }
     ensures taken { OnOk result (inbox.new.items ≡ due_in until rings.old.items number) }
     ensures rest { OnOk result (contents rings.new.items ≡ left_in until rings.old.items number) }
     ensures err { OnErr result (contents rings.new.items ≡ contents rings.old.items) }
@@ -417,8 +417,8 @@ fn take_from_both(
 ) -> Result<(), AllocError>
     requires small { number + 1 < 2 ^ 64 }
     requires empty { inbox.old.items ≡ [] }
-    requires first { IsByAge (messages_at rings.old.items number) }
-    requires second { IsByAge (messages_at rings.old.items (number + 1)) }
+    requires first { IsByAge (ring_messages_at rings.old.items number) }
+    requires second { IsByAge (ring_messages_at rings.old.items (number + 1)) }
     ensures taken { OnOk result (inbox.new.items ≡ due_in_both until rings.old.items number) }
     ensures rest { OnOk result (contents rings.new.items ≡ left_both until rings.old.items number) }
     ensures err { OnErr result (contents rings.new.items ≡ contents rings.old.items) }
@@ -431,7 +431,7 @@ fn take_from_both(
 
 /// When the first message in a ring arrives; none, where there is no such ring.
 fn first_arrival_in(rings: &[Ring], number: usize) -> Option<Cycle>
-    ensures { result ≡ first_arrival (messages_at rings.now number) }
+    ensures { result ≡ first_arrival (ring_messages_at rings.now number) }
 {
     first_arrival(rings.get(number)?)
 }

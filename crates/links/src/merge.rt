@@ -3,7 +3,7 @@
 ghost use Rattle.std.specs.Prelude.{◌≡◌, ◌&&◌, nat_lt, [], length, fold, IfOk, OnOk};
 ghost use Rattle.std.specs.List.{AllByRecursion};
 ghost use Rattle.sim_base.specs.History.{insert_by_age};
-ghost use Rattle.links.specs.Rings.{contents, messages_in, IsByAge, due_of, merged_due};
+ghost use Rattle.links.specs.Rings.{contents, ring_messages, IsByAge, due_of, merged_due};
 
 use crate::rings::{Ring, append_all, copy_both_before, head_before};
 use sim_base::message::{Cycle, Message};
@@ -108,7 +108,7 @@ pub fn copy_heads(
 /// What stands in several rings, by age.
 pub fn messages_of(alloc: Global, rings: &[Ring]) -> Result<Vec<Message>, AllocError>
     requires { AllByRecursion IsByAge (contents rings.now) }
-    ensures { IfOk result (λ v. v.items ≡ messages_in rings.now) }
+    ensures { IfOk result (λ v. v.items ≡ ring_messages rings.now) }
 {
     match rings {
         [] => Ok(Vec::new(alloc)),

@@ -94,7 +94,7 @@ pub record IsNextOfChannels (stats : RunStats) (requests : List RequestTimes) (t
   pub channels : (earlier : ℕ) → earlier < channel → IsChannelOfRun stats requests earlier
   pub next : IsNextOfChannel stats requests channel tally
 
--- the first channel of which a count is not told, behind the cores, of which each is told
+-- a count of a channel, where those of all cores and those of channels that are tested before it are told
 pub record IsNextAfterCores (stats : RunStats) (requests : List RequestTimes) (tally : Tally) : Type 0 where
   pub cores : (core : ℕ) → core < length stats.cores → IsCoreOfRun stats requests core
   pub next : IsNextOfChannels stats requests tally
@@ -112,8 +112,8 @@ IsOtherCount is_so stats requests (Stranger place) = ⊥
 IsOtherCount is_so stats requests (Excess tally place) = is_so tally × IsExcess tally stats requests place
 IsOtherCount is_so stats requests (Lack tally) = is_so tally × (amount tally requests < told tally stats)
 
--- why requests are not those of the run: the first request that is not of it, or, where all are, the first count that is
--- not that of the statistics
+-- why requests are not those of the run: the first request that is not of it, or, where all are, the first count that
+-- is not that of the statistics
 abbrev pub IsMismatch : RunStats → List RequestTimes → Mismatch → Type 0
 IsMismatch stats requests (Stranger place) = IsFirstStranger stats requests place
 IsMismatch stats requests (Excess tally place) = IsNextOfRun stats requests tally × IsExcess tally stats requests place

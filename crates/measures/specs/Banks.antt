@@ -1,7 +1,7 @@
 -- What each bank of a channel did, over the commands of a run.
 --     is_of_channel channel issued, of_channel channel commands      a command of a channel; the commands that are
---     names_bank bank issued, of_bank bank commands      a command that names a bank, as ACT, RD, WR and PRE do; the commands that do
---     is_of_rank rank issued, of_rank rank commands      a command that names a rank or a bank of it; the commands that do
+--     names_bank bank issued, of_bank bank commands      a command that names a bank; the commands that do
+--     is_of_rank rank issued, of_rank rank commands      a command that names a rank or a bank of it; those that do
 --     every_bank      the banks that a channel may have, by rank, group and bank
 --     counts_in commands bank      what a bank did, over the commands of its channel
 --     channel_counts channel commands      the same of each bank of a channel that a command names
@@ -45,14 +45,13 @@ is_of_rank rank issued = rank_of issued.command == rank
 unfoldable pub of_rank : ℕ → List IssuedCommand → List IssuedCommand
 of_rank rank commands = filter (is_of_rank rank) commands
 
--- all of them, by rank, group and bank
+-- the banks that a channel may have, by rank, group and bank
 unfoldable pub every_bank : List BankId
 every_bank = map bank_at (below 64)
 
 -- What a bank did, over the commands of its channel: its ACTs, RDs and WRs; how often it was told to close its row, by
--- its PREs and the
--- PREAs of its rank; its conflicts, which are its PREs, each issued for a request that needs another row than the open
--- one; and its row hits, which are its RDs and WRs for whose request it had no ACT.
+-- its PREs and the PREAs of its rank; its conflicts, which are its PREs, each issued for a request that needs another
+-- row than the open one; and its row hits, which are its RDs and WRs for whose request it had no ACT.
 unfoldable pub counts_in : List IssuedCommand → BankId → BankCounts
 counts_in commands bank = record {
   bank = bank;

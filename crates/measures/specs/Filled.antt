@@ -1,6 +1,6 @@
 -- Forms, which have a placeholder, `{}`, for each piece that is filled in.
 --     IsCut form words rest      a form is these words, its first placeholder, and a rest
---     FillsNext says form rest text      the text of a form up to its first placeholder, and of a piece in place of that
+--     FillsNext kind form rest text      the text of a form up to its first placeholder, and of a piece in its place
 --     IsFilled appends form pieces text      the text of a form with pieces in place of its placeholders, in turn
 use Rattle.std.specs.Prelude.{◌≡◌, ◌≢◌, ℕ, ◌<◌, List, [], ◌∷◌, ◌++◌, ◌⊎◌, length, codes}
 

@@ -1,7 +1,7 @@
 -- Numbers as a screen shows them: at most four digits that say something. A number is given in halves of a thousandth,
 -- and the place of its last digit as a power of ten of thousandths.
---     halves_of dividend divisor      a quotient in halves of a thousandth, rounded down, if there is anything to divide by
---     decimals_of power, unit_of power      how many decimals a number has, and its unit, by the place of its last digit
+--     halves_of dividend divisor      a quotient in halves of a thousandth, rounded down; none for the divisor 0
+--     decimals_of power, unit_of power      how many decimals, and the unit, by the place of the last digit
 --     digits_of power halves      its digits up to there, rounded half up
 --     power_of form halves      the place of its last digit
 --     number_text number      a number as a screen shows it
@@ -12,7 +12,7 @@ use Rattle.measures.specs.declared.number.Number.{Number}
 use Rattle.measures.specs.declared.number.NumberForm.{NumberForm}
 use Rattle.measures.specs.declared.number.NumberForm.TheVariants.{Mean, Percent, Count}
 
--- a quotient in halves of a thousandth, rounded down; a dividend above 2^70 counts as 2^70
+-- a quotient in halves of a thousandth, rounded down; none for the divisor 0; a dividend above 2^70 counts as 2^70
 abbrev pub halves_of : ℕ → ℕ → Option ℕ
 halves_of dividend divisor = if divisor == 0 then None else Some (2000 * min dividend (2 ^ 70) / divisor)
 

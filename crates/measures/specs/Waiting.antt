@@ -36,4 +36,5 @@ waited class channel requests = sum_by (waited_in class channel) requests
 
 -- how many requests of a channel are of a class, and how long they waited, in all
 abbrev pub channel_waits : Class → ℕ → List RequestTimes → Waits
-channel_waits class channel requests = record { requests = counted class channel requests; cycles = waited class channel requests }
+channel_waits class channel requests =
+    record { requests = counted class channel requests; cycles = waited class channel requests }

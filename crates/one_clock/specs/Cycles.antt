@@ -6,9 +6,11 @@
 --     core_step_in, core_stop_in, core_stops_in      what a core does in the cycle; the same with why it stops
 --     channel_step_in, channel_steps_in      what a channel does in the cycle
 --     sent_by, sent_by_cores, sent_by_channels, sent_in      what is sent in the cycle
---     flight_before, flight_after, commands_before, commands_after      the messages in flight, and the commands that were issued
+--     flight_before, flight_after, commands_before, commands_after      the messages in flight; the commands issued
 --     core_left_before, cores_left_before, ..      the state in which the run leaves them, if it ends before the cycle
---     arrival_in, is_hit_in, request_for, request_of_row, requests_of_rows, requests_before      the requests that were served before the cycle
+--     arrival_in, is_hit_in      when a request reached its channel; whether a command is a row hit
+--     request_for, request_of_row, requests_of_rows      the requests that commands serve
+--     requests_before      the requests that were served before the cycle
 use Rattle.std.specs.Prelude.{ℕ, ◌+◌, Bool, List, map, flat_map, filter_map, Option}
 use Rattle.sim_base.specs.Counts.{in_flight, is_hit}
 use Rattle.sim_base.specs.History.{below, commands, steps_of_channel, issued_commands}
@@ -21,8 +23,8 @@ use Rattle.sim_base.specs.declared.history.CoreStep.{CoreStep}
 use Rattle.sim_base.specs.declared.message.Access.{Access}
 use Rattle.sim_base.specs.declared.message.Message.{Message}
 use Rattle.sim_base.specs.declared.trace.Stop.{Stop}
-use Rattle.statistics.specs.Runs.{stats_of_core, stats_of_channel, last_of_core, last_of_channel}
-use Rattle.statistics.specs.Values.{LastCore, LastChannel}
+use Rattle.statistics.specs.Runs.{stats_of_core, stats_of_channel, final_of_core, final_of_channel}
+use Rattle.statistics.specs.Values.{FinalCore, FinalChannel}
 use Rattle.statistics.specs.declared.channels.ChannelStats.{ChannelStats}
 use Rattle.statistics.specs.declared.cores.CoreStats.{CoreStats}
 use Rattle.plain_steps.specs.Plain.{CoreView, core_view, ChannelView, channel_view, channel_step_of}
@@ -154,17 +156,17 @@ abbrev pub commands_after : RunCycle → List IssuedCommand
 commands_after c = commands (steps_after c)
 
 -- the state in which a core is left, if the run ends before the cycle
-abbrev pub core_left_before : RunCycle → ℕ → LastCore
-core_left_before c = last_of_core c.config.now c.traces.now (steps_before c)
+abbrev pub core_left_before : RunCycle → ℕ → FinalCore
+core_left_before c = final_of_core c.config.now c.traces.now (steps_before c)
 
-abbrev pub cores_left_before : RunCycle → List LastCore
+abbrev pub cores_left_before : RunCycle → List FinalCore
 cores_left_before c = each_core c (core_left_before c)
 
 -- the state in which a channel is left, if the run ends before the cycle
-abbrev pub channel_left_before : RunCycle → ℕ → LastChannel
-channel_left_before c = last_of_channel c.config.now c.traces.now (steps_before c)
+abbrev pub channel_left_before : RunCycle → ℕ → FinalChannel
+channel_left_before c = final_of_channel c.config.now c.traces.now (steps_before c)
 
-abbrev pub channels_left_before : RunCycle → List LastChannel
+abbrev pub channels_left_before : RunCycle → List FinalChannel
 channels_left_before c = each_channel c (channel_left_before c)
 
 -- the cycle in which the request of an entry reaches a channel, by the steps before the cycle

@@ -1,11 +1,11 @@
 -- How a run ends, and parts of the state in which a unit is left.
---     credits_kept s core past channel, all_credits_kept s core past      the credits that a core holds, for one channel and for each
+--     credits_kept s core past channel, all_credits_kept s core past      a core's credits for one and for each channel
 --     refreshes_due s history now      how many refreshes of each rank are due
 --     is_core_retired_before, are_cores_retired_before      whether traces are retired before a cycle
 --     has_channel_served_before, have_channels_served_before      whether requests are served before it
---     is_all_delivered_before, is_over_before      whether messages have arrived before it; and whether all of this holds
+--     is_all_delivered_before, is_over_before      whether messages have arrived before it; whether all of this holds
 --     ends_before c      whether the run ends before the cycle
---     cycles_within c limit      how many cycles the run of this cycle has, which ends where it is over, or at a limit
+--     cycles_within c limit      how many cycles the run has: the limit, or fewer where it ends drained sooner
 --     outcome_before tables c      what the run leaves, if it does
 use Rattle.std.specs.Prelude.{ℕ, Bool, ◌&&◌, List, length, map}
 use Rattle.std.specs.List.{list_all}
@@ -68,7 +68,7 @@ is_over_before c = is_over c.config.now c.traces.now (steps_before c)
 abbrev pub ends_before : RunCycle → Bool
 ends_before c = c.config.now.ends_drained && is_over_before c
 
--- how many cycles the run has, which ends where it is over, or at a limit
+-- how many cycles the run has: the limit, or fewer where the configuration ends it drained and it is over sooner
 abbrev pub cycles_within : RunCycle → ℕ → ℕ
 cycles_within c limit = cycles_run c.config.now c.traces.now limit
 

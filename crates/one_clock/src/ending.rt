@@ -43,7 +43,7 @@ fn all_credits_held(
 }
 
 /// The state in which a core is left, if the run ends before this cycle.
-#[tactic(auto, unfolding(statistics::specs::Runs::last_of_core, statistics::specs::Runs::core_last, statistics::specs::Runs::credits_of, sim_base::specs::Final::credits_left, sim_base::specs::History::messages_of_core), using(crate::proofs::Next::length_steps))]
+#[tactic(auto, unfolding(statistics::specs::Runs::final_of_core, statistics::specs::Runs::core_final, statistics::specs::Runs::credits_of, sim_base::specs::Final::credits_left, sim_base::specs::History::messages_of_core), using(crate::proofs::Next::length_steps))]
 pub fn core_left(
     cycle: &RunCycle<'_>,
     core: CoreId,

@@ -1,6 +1,6 @@
 -- What a channel chooses in a cycle.
 --     is_legal_in c command      whether a command may be issued in the cycle
---     ready_hit_in c r, ready_row_in c requests r      whether what a request needs next may be: a RD or WR; an ACT or PRE
+--     ready_hit_in c r, ready_row_in c requests r      whether a request's RD or WR, or its ACT or PRE, may be issued
 --     first_ready_in c requests      the command of the first request that is ready, row hits first
 --     if_legal_in c command      a command, if it may be issued
 --     choice_in c requests due      the command, for a rank whose refresh is due or for one of these requests

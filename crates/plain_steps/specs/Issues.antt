@@ -1,11 +1,11 @@
 -- What a core issues in a cycle, why it stops, and when it has finished.
---     request_of_entry s core cycle trace number      the request of the entry of a number, if there is one and it makes one
+--     request_of_entry s core cycle trace number      the request of an entry, if there is one that reads or writes
 --     requests_issued s core trace issued      the requests among entries that are issued in a cycle
 --     credits_held s mail channel access until      the credits that a core holds, by its messages
 --     is_memory_among trace first m      whether one of m entries is a Read or a Write
 --     lacks_credit_for stage entry      whether an entry needs a credit that the core does not hold
---     cause_to_stop stage m, stops_after stage m      why no more than m entries issue, if anything; whether something does
---     first_cause_to_stop stage, issue_count_of stage      after how many entries something first does; how many issue
+--     cause_to_stop stage m, stops_after stage m      why the core stops after m entries, if it does; whether it does
+--     first_cause_to_stop stage, issue_count_of stage      after how many entries it first stops; how many it issues
 --     HasSent s trace past_steps mail      the messages that a core sent are those of its steps
 --     next_step_of s trace past_steps mail      what it does next, and why it stops
 --     finishing_cycle entries now retired_so_far retired      the cycle, if the last of a core's entries retires in it

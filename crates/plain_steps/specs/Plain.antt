@@ -1,6 +1,6 @@
 -- What the plain machine keeps of the past of each core and of each channel, and what a channel does next.
 --     CoreView, core_view s traces history core      what a core did, sent and was sent
---     ChannelView, channel_view s traces history channel      what a channel did, and the requests that it is still to serve
+--     ChannelView, channel_view s traces history channel      what a channel did, and the requests that are not served
 --     channel_step_of s traces history channel      what a channel does in the cycle after a history
 --     queue_of pending until      the requests among these that arrived before a cycle
 --     is_late now m      a message that is still to arrive at a cycle
@@ -32,7 +32,11 @@ pub record CoreView : Type 0 where
 -- a core of the machine after a history
 abbrev pub core_view : Config → List (List Entry) → List MachineStep → ℕ → CoreView
 core_view s traces history core =
-    record { past_steps = steps_of_core core history; sent = messages_of_core s traces history core; inbox = inbox s traces history (Core core) }
+    record {
+      past_steps = steps_of_core core history;
+      sent = messages_of_core s traces history core;
+      inbox = inbox s traces history (Core core);
+    }
 
 -- the commands that a channel issued, the requests sent to it that are not served, by age, and whether it drained its
 -- writes in the last cycle
@@ -65,7 +69,8 @@ abbrev pub channel_step_of : Config → List (List Entry) → List MachineStep �
 channel_step_of s traces history channel =
     record {
       command = next_command s traces history channel;
-      draining = drains s channel (steps_of_channel channel history) (inbox s traces history (Channel channel)) (length history);
+      draining = drains s channel (steps_of_channel channel history) (inbox s traces history (Channel channel))
+          (length history);
     }
 
 -- a channel of the machine after a history

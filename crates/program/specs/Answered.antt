@@ -49,10 +49,12 @@ pub record Seen : Type 0 where
   pub printed : Option (List ℕ)
 
 abbrev pub seen : Held → (List ℕ → Bool) → List (List ℕ) → Option (List ℕ) → Seen
-seen held has_folder opened printed = record { held = held; has_folder = has_folder; opened = opened; printed = printed }
+seen held has_folder opened printed =
+    record { held = held; has_folder = has_folder; opened = opened; printed = printed }
 
 -- The files that are named hold a configuration and traces, and these are the machine and the entries that they mean.
-pub record IsInputOf (config : List ℕ) (cycles workers : ℕ) (traces : List (List ℕ)) (held : Held) (machine : Config) (entries : List (List Entry)) : Type 0 where
+pub record IsInputOf (config : List ℕ) (cycles workers : ℕ) (traces : List (List ℕ)) (held : Held) (machine : Config)
+    (entries : List (List Entry)) : Type 0 where
   pub document : List ℕ
   pub texts : List (List ℕ)
   pub config_is : held config ≡ Some document
@@ -61,7 +63,8 @@ pub record IsInputOf (config : List ℕ) (cycles workers : ℕ) (traces : List (
 
 -- The files that are named hold a configuration and traces, this is the outcome of the one-clock machine that they
 -- describe, with the tables that are asked for, and `check` says of the table of its commands that it is legal.
-pub record IsOutcome (config : List ℕ) (cycles workers : ℕ) (tables : Tables) (traces : List (List ℕ)) (held : Held) (run : RunOutcome) : Type 0 where
+pub record IsOutcome (config : List ℕ) (cycles workers : ℕ) (tables : Tables) (traces : List (List ℕ)) (held : Held)
+    (run : RunOutcome) : Type 0 where
   pub document : List ℕ
   pub texts : List (List ℕ)
   pub config_is : held config ≡ Some document
@@ -71,14 +74,16 @@ pub record IsOutcome (config : List ℕ) (cycles workers : ℕ) (tables : Tables
 
 -- the tables of the outcome that are asked for are in the folder and no others, just these were opened, and nothing
 -- else has changed
-pub record IsRunDone (config : List ℕ) (cycles workers : ℕ) (tables : Tables) (out : List ℕ) (traces : List (List ℕ)) (old new : Held) (before after : List (List ℕ)) : Type 0 where
+pub record IsRunDone (config : List ℕ) (cycles workers : ℕ) (tables : Tables) (out : List ℕ) (traces : List (List ℕ))
+    (old new : Held) (before after : List (List ℕ)) : Type 0 where
   pub run : RunOutcome
   pub outcome : IsOutcome config cycles workers tables traces old run
   pub written : IsWritten out run old new
   pub opened_are : after ≡ before ++ parts out run
 
 -- the run has an outcome, its folder was there before it began, and its tables could not all be given their places
-pub record IsRunLeft (refusal : Refusal) (config : List ℕ) (cycles workers : ℕ) (tables : Tables) (out : List ℕ) (traces : List (List ℕ)) (has_folder : Bool) (old new : Held) : Type 0 where
+pub record IsRunLeft (refusal : Refusal) (config : List ℕ) (cycles workers : ℕ) (tables : Tables) (out : List ℕ)
+    (traces : List (List ℕ)) (has_folder : Bool) (old new : Held) : Type 0 where
   pub run : RunOutcome
   pub folder : has_folder ≡ true
   pub outcome : IsOutcome config cycles workers tables traces old run
@@ -95,7 +100,8 @@ IsUnfinished refusal config cycles workers tables out traces has_folder old new 
 
 -- a run has been done: its folder was there before it began, it prints nothing, and opens just the tables that are
 -- asked for
-pub record IsRunAnswer (config : List ℕ) (cycles workers : ℕ) (tables : Tables) (out : List ℕ) (traces : List (List ℕ)) (status : ExitStatus) (old new : Seen) : Type 0 where
+pub record IsRunAnswer (config : List ℕ) (cycles workers : ℕ) (tables : Tables) (out : List ℕ) (traces : List (List ℕ))
+    (status : ExitStatus) (old new : Seen) : Type 0 where
   pub status_is : status ≡ exit.Done
   pub folder : old.has_folder out ≡ true
   pub done : IsRunDone config cycles workers tables out traces old.held new.held old.opened new.opened
@@ -119,13 +125,15 @@ abbrev pub options_of : ShowArguments → Options
 options_of show = record { all = show.all; khz = show.khz }
 
 -- a run has been shown
-pub record IsShowAnswer (dir : List ℕ) (config : Option (List ℕ)) (options : Options) (status : ExitStatus) (old new : Seen) : Type 0 where
+pub record IsShowAnswer (dir : List ℕ) (config : Option (List ℕ)) (options : Options) (status : ExitStatus)
+    (old new : Seen) : Type 0 where
   pub status_is : status ≡ exit.Done
   pub shown : IsShown dir config options old.held (Appends old.printed new.printed)
   pub untouched : IsUntouched old.held new.held old.opened new.opened
 
 -- a run has been shown with its banks
-pub record IsBanksAnswer (dir : List ℕ) (config : Option (List ℕ)) (options : Options) (status : ExitStatus) (old new : Seen) : Type 0 where
+pub record IsBanksAnswer (dir : List ℕ) (config : Option (List ℕ)) (options : Options) (status : ExitStatus)
+    (old new : Seen) : Type 0 where
   pub status_is : status ≡ exit.Done
   pub shown : IsShownWithBanks dir config options old.held (Appends old.printed new.printed)
   pub untouched : IsUntouched old.held new.held old.opened new.opened
@@ -203,7 +211,8 @@ pub record IsDone (words : List (List ℕ)) (done : Done) (old new : Seen) : Typ
 
 -- what the words ask for has been done with this status; and the stream of errors took the line that warns of a page of
 -- more than 50 MB, or a beginning of it where it has refused, and nothing where there is no such page
-pub record IsAnswered (words : List (List ℕ)) (status : ExitStatus) (old new : Seen) (has_refused : Bool) (before after : Option (List ℕ)) : Type 0 where
+pub record IsAnswered (words : List (List ℕ)) (status : ExitStatus) (old new : Seen) (has_refused : Bool)
+    (before after : Option (List ℕ)) : Type 0 where
   pub done : Done
   pub status_is : status ≡ done.status
   pub is_done : IsDone words done old new

@@ -11,7 +11,8 @@ use Rattle.program.specs.Refused.{IsFaultOf}
 -- The words are refused for this fault, and leave this; nothing is printed, unless the fault is that it could not be
 -- written; and the stream of errors took the lines of the refusal and what explains them, or a beginning of that where it
 -- has refused.
-pub record IsTold (tells : Type 0) (words : List (List ℕ)) (old new : Seen) (has_refused : Bool) (before after : Option (List ℕ)) : Type 0 where
+pub record IsTold (tells : Type 0) (words : List (List ℕ)) (old new : Seen) (has_refused : Bool)
+    (before after : Option (List ℕ)) : Type 0 where
   pub refusal : Refusal
   pub why : IsFaultOf tells old.held words (fault_of refusal)
   pub left : tells → IsRefusedBy refusal words old new

@@ -6,4 +6,5 @@ use Rattle.std.specs.Prelude.{ℕ, ◌-◌, ◌*◌, ◌/◌, ◌^◌, nat_lt, m
 abbrev pub next_interval : ℕ → ℕ → ℕ
 next_interval interval millis =
     max
-    (if nat_lt millis 50 then min (2 * interval) (2 ^ 64 - 1) else (if nat_lt 200 millis then interval / 2 else interval)) 1
+    (if nat_lt millis 50 then min (2 * interval) (2 ^ 64 - 1)
+    else (if nat_lt 200 millis then interval / 2 else interval)) 1

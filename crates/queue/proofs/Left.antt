@@ -9,14 +9,14 @@ use Rattle.queue.specs.declared.request_log.Arrived.{Arrived}
 use Rattle.queue.specs.Marks.{is_marked}
 use Rattle.queue.specs.Log.{absent, waiting_requests, eligible_column, is_for, served_at, waits_at}
 use Rattle.queue.specs.Columns.{bank_number, tag_word, tag_column, served_tag, blocked_count, AreCounted}
-use Rattle.queue.specs.Lines.{is_told, NoneTold, IsFoundAt}
+use Rattle.queue.specs.Lines.{is_tagged_as, NoneTaggedAs, IsFoundAt}
 use Rattle.queue.proofs.Waiting.{asks_some}
 use Rattle.queue.proofs.Eligible.{length-eligible}
 use Rattle.queue.proofs.Places.{left_off, length-served, waiting_at, waiting_within, waiting_served}
 use Rattle.queue.proofs.Served.{served_first, blocked_behind}
 use Rattle.queue.proofs.TagsChanged.{tag_unblocked, blocked_some, blocked_next}
 use Rattle.queue.proofs.Counted.{counted_removed, some_counted}
-use Rattle.queue.proofs.Told.{told_there}
+use Rattle.queue.proofs.TagSearch.{tagged_there}
 
 -- none behind a place, up to another, waits for its line
 abbrev pub NoneBehind : List Arrived → ℕ → ℕ → Type 0
@@ -61,7 +61,7 @@ pub record IsBehind (log : List Arrived) (tags : List ℕ) (place : ℕ) (a : Ar
 
 -- none behind waits for the line as far as no tag of the line is met
 pub none_met : (log : List Arrived) (tags : List ℕ) (place : ℕ) (a : Arrived) (left : List Arrived) (left_tags : List ℕ) (until : ℕ) → IsBehind log tags place a left left_tags → until ≤ length log
-    → NoneTold false a.request.place left left_tags (place + 1) until → NoneBehind log place until
+    → NoneTaggedAs false a.request.place left left_tags (place + 1) until → NoneBehind log place until
 none_met log tags place a left left_tags until is short none j behind below =
     let asked = (get_or log place absent).request.place in
     let there : get_or left_tags j 0 ≡ get_or (tag_column log) j 0 =
@@ -70,9 +70,9 @@ none_met log tags place a left left_tags until is short none j behind below =
     false_from_ne_true (is_for asked (get_or log j absent))
     (λ here.
     let within : j < length log = omega (arith, below, short) in
-    let told = told_there false asked log j within here (blocked_behind log place j behind within is.waits here) in
+    let tagged = tagged_there false asked log j within here (blocked_behind log place j behind within is.waits here) in
     false≢true
-    (sym (none j (omega (arith, behind)) below) ∙ (λ i. is_told false (ap (λ (b : Arrived). b.request.place) is.there i) (other i) (there i)) ∙ told))
+    (sym (none j (omega (arith, behind)) below) ∙ (λ i. is_tagged_as false (ap (λ (b : Arrived). b.request.place) is.there i) (other i) (there i)) ∙ tagged))
 
 -- the next one of a line stands at a place, and is blocked
 pub record IsNextAt (log : List Arrived) (place next : ℕ) : Type 0 where

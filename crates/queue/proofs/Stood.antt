@@ -1,17 +1,15 @@
 -- What the candidates of all banks stand for, when those of one bank change.
-use Rattle.std.proofs.Common.{◌≡◌, ◌≢◌, ℕ, ◌+◌, ◌*◌, ◌/◌, ◌%◌, ◌^◌, ◌<◌, ◌≤◌, Bool, true, false, cond, ◌&&◌, eqb, ltb, List, [], ◌∷◌, ◌++◌, length, map, get_or, set, take, drop, replicate, Option, Some, None, refl, sym, ap, subst, ◌∙◌, inl, inr, arith, get_or-set_same, get_or-set_other}
-use Rattle.std.proofs.lemmas.Bool.{cases_lt, cases_eq, eq-eqb, ne_eqb, cond-true, cond-false, lt-ltb, le-ltb, and_from, and_parts, eqb-true, false_from_ne_true}
+use Rattle.std.proofs.Common.{◌≡◌, ◌≢◌, ℕ, ◌+◌, ◌*◌, ◌/◌, ◌^◌, ◌<◌, ◌≤◌, Bool, true, false, cond, ◌&&◌, eqb, ltb, List, [], ◌∷◌, ◌++◌, length, map, get_or, set, take, drop, replicate, Option, Some, None, refl, sym, ap, subst, ◌∙◌, inl, inr, arith, get_or-set_same, get_or-set_other}
+use Rattle.std.proofs.lemmas.Bool.{cases_lt, cases_eq, eq-eqb, ne_eqb, cond-true, cond-false, lt-ltb, le-ltb, and_from, eqb-true, false_from_ne_true}
 use Rattle.std.proofs.lemmas.List.{get_or-replicate, get_or_past, length-replicate, length-set, length-take-le, map-append, get_or_at}
 use Rattle.std.proofs.lemmas.List.Elements.{All-push}
 use Rattle.std.specs.List.{All, position, zip}
 use Rattle.std.proofs.Math.Bool.{and-false}
 use Rattle.sim_base.specs.declared.message.Access.{Access}
 use Rattle.sim_base.specs.declared.message.Access.TheVariants as access
-use Rattle.sim_base.specs.Places.{is_bank, bank_at, number_of_bank}
 use Rattle.sim_base.specs.Rules.{is_row}
 use Rattle.sim_base.specs.Scheduling.{asks_for_line, or_else}
 use Rattle.sim_base.specs.declared.message.Request.{Request}
-use Rattle.sim_base.specs.declared.place.BankId.{BankId}
 use Rattle.queue.specs.declared.request_log.Arrived.{Arrived}
 use Rattle.queue.specs.Marks.{is_marked}
 use Rattle.sim_base.specs.Counts.{one_if}
@@ -26,7 +24,7 @@ use Rattle.queue.specs.declared.bank_candidates.all_banks.BankCandidates.{BankCa
 use Rattle.queue.specs.Candidates.{asks, hits, passes, first_place, AreFirst, AreCandidates, RowsFit, access_number, access_number_of}
 use Rattle.sim_base.specs.Earlier.{earlier}
 use Rattle.queue.specs.Served.{IsServed, AreFirstWith}
-use Rattle.queue.specs.Places.{candidate_in, access_in}
+use Rattle.queue.specs.Words.{candidate_in, access_in}
 use Rattle.queue.specs.Sets.{is_in}
 use Rattle.queue.specs.declared.bank_candidates.sets.BankSet.{BankSet}
 use Rattle.std.specs.Option.{is_some}
@@ -47,30 +45,30 @@ pub record AreStanding (rows : List (Option ℕ)) (words : List ℕ) (log : List
   pub first : (bank : ℕ) (access : Access) → bank < length rows → AreFirst log bank access (open_rows bank) (access_in words (access_number bank access))
 
 pub to_parts : (candidates : BankCandidates) (log : List Arrived) (open_rows : ℕ → Option ℕ) → StandsFor candidates log open_rows
-    → AreStanding candidates.rows.items candidates.places.words.items log open_rows
+    → AreStanding candidates.rows.items candidates.candidate_words.words.items log open_rows
 to_parts candidates log open_rows stands =
     record {
       within = stands.within;
       fit = stands.rows_fit;
       opened = stands.rows_are;
       first = λ bank access exists.
-          subst (λ row. AreFirst log bank access row (access_in candidates.places.words.items (access_number bank access))) (stands.rows_are bank exists)
+          subst (λ row. AreFirst log bank access row (access_in candidates.candidate_words.words.items (access_number bank access))) (stands.rows_are bank exists)
           (of_access bank access exists (stands.candidates_are bank exists));
     }
   where
     of_access : (bank : ℕ) (access : Access) → bank < bank_count candidates
         → AreCandidates log bank (candidates_of_bank candidates bank)
-        → AreFirst log bank access (get_or candidates.rows.items bank None) (access_in candidates.places.words.items (access_number bank access))
+        → AreFirst log bank access (get_or candidates.rows.items bank None) (access_in candidates.candidate_words.words.items (access_number bank access))
     of_access bank access.Write exists are = are.writes_are
     of_access bank access.Read exists are = are.reads_are
 
 pub from_parts : (candidates : BankCandidates) (log : List Arrived) (open_rows : ℕ → Option ℕ)
-    → AreStanding candidates.rows.items candidates.places.words.items log open_rows
+    → AreStanding candidates.rows.items candidates.candidate_words.words.items log open_rows
     → AreCounted candidates.counts.items (waiting_requests log) → StandsFor candidates log open_rows
 from_parts candidates log open_rows parts counted =
     let first : (bank : ℕ) (access : Access) → bank < bank_count candidates
-    → AreFirst log bank access (get_or candidates.rows.items bank None) (access_in candidates.places.words.items (access_number bank access)) =
-    λ bank access exists. subst (λ row. AreFirst log bank access row (access_in candidates.places.words.items (access_number bank access))) (sym (parts.opened bank exists)) (parts.first bank access exists) in
+    → AreFirst log bank access (get_or candidates.rows.items bank None) (access_in candidates.candidate_words.words.items (access_number bank access)) =
+    λ bank access exists. subst (λ row. AreFirst log bank access row (access_in candidates.candidate_words.words.items (access_number bank access))) (sym (parts.opened bank exists)) (parts.first bank access exists) in
     record {
       within = parts.within;
       rows_fit = parts.fit;
@@ -147,13 +145,13 @@ mark_read log place exists =
 -- where one request was served, and the candidates of its access have left it
 pub left_stand : (candidates : BankCandidates) (old : List ℕ) (was log : List Arrived) (place : ℕ) (unblocked : Option ℕ) (open_rows : ℕ → Option ℕ) → IsServed was place unblocked log
     → (let r = (get_or was place absent).request in
-    AreFirstWith log (bank_number r.place) r.access (open_rows (bank_number r.place)) unblocked (access_in candidates.places.words.items (access_number_of r)))
-    → ((number : ℕ) → (number ≡ access_number_of (get_or was place absent).request → ⊥) → access_in candidates.places.words.items number ≡ access_in old number)
+    AreFirstWith log (bank_number r.place) r.access (open_rows (bank_number r.place)) unblocked (access_in candidates.candidate_words.words.items (access_number_of r)))
+    → ((number : ℕ) → (number ≡ access_number_of (get_or was place absent).request → ⊥) → access_in candidates.candidate_words.words.items number ≡ access_in old number)
     → AreStanding candidates.rows.items old was open_rows → AreCounted candidates.counts.items (waiting_requests log) → StandsUpTo candidates log unblocked open_rows
 left_stand candidates old was log place unblocked open_rows served own others stands counted =
     let r = (get_or was place absent).request in
     let number = bank_number r.place in
-    let words = candidates.places.words.items in
+    let words = candidates.candidate_words.words.items in
     let all : all_requests log ≡ all_requests was = ap all_requests served.log_is ∙ all_served was place in
     let kept : (bank : ℕ) (access : Access) → (access_number bank access ≡ access_number_of r → ⊥) → AreFirst was bank access (open_rows bank) (access_in old (access_number bank access))
     → AreFirstWith log bank access (open_rows bank) unblocked (access_in old (access_number bank access)) =
@@ -197,7 +195,7 @@ pub unblocked_stand : (old new : List ℕ) (candidates : BankCandidates) (log : 
     → (let number = access_number_of (get_or log next absent).request in candidate_in new number false ≡ earlier (candidate_in old number false) (Some next))
     → (let number = access_number_of (get_or log next absent).request in candidate_in new number true ≡ earlier (candidate_in old number true) (cond hit (Some next) None))
     → ((number : ℕ) → (number ≡ access_number_of (get_or log next absent).request → ⊥) → access_in new number ≡ access_in old number)
-    → old ≡ candidates.places.words.items → StandsUpTo candidates log (Some next) open_rows → AreStanding candidates.rows.items new log open_rows
+    → old ≡ candidates.candidate_words.words.items → StandsUpTo candidates log (Some next) open_rows → AreStanding candidates.rows.items new log open_rows
 unblocked_stand old new candidates log next open_rows hit exists hit_is oldest_taken hit_taken others same_words stands =
     let r = (get_or log next absent).request in
     let own = bank_number r.place in
@@ -344,27 +342,6 @@ closed_none rank open_rows bank = ap (λ b. cond (b && eqb (bank / 16) rank) Non
 pub closed_all : (number rank : ℕ) (open_rows : ℕ → Option ℕ) (bank : ℕ) → bank < number → closed_before number rank open_rows bank ≡ closed_in rank open_rows bank
 closed_all number rank open_rows bank below = ap (λ b. cond (b && eqb (bank / 16) rank) None (open_rows bank)) (lt-ltb bank number below)
 
--- the bank with the number of another
-pub bank_named : (n : ℕ) (b : BankId) → b.group < 4 → b.bank < 4 → eqb n (number_of_bank b) ≡ is_bank (bank_at n) b
-bank_named n b group bank = elim (cases_eq n (number_of_bank b)) [
-  | inl same ↦
-      let rank_is : n / 16 ≡ b.rank = omega arith in
-      let group_is : n / 4 % 4 ≡ b.group = omega arith in
-      let bank_is : n % 4 ≡ b.bank = omega arith in
-      eq-eqb n (number_of_bank b) same
-      ∙ sym (and_from (eqb (n / 16) b.rank && eqb (n / 4 % 4) b.group) (eqb (n % 4) b.bank)
-      (and_from (eqb (n / 16) b.rank) (eqb (n / 4 % 4) b.group) (eq-eqb (n / 16) b.rank rank_is) (eq-eqb (n / 4 % 4) b.group group_is)) (eq-eqb (n % 4) b.bank bank_is))
-  | inr apart ↦
-      ne_eqb n (number_of_bank b) apart
-      ∙ sym (false_from_ne_true (is_bank (bank_at n) b) (λ same.
-      let bank_part = and_parts (eqb (n / 16) b.rank && eqb (n / 4 % 4) b.group) (eqb (n % 4) b.bank) same in
-      let group_part = and_parts (eqb (n / 16) b.rank) (eqb (n / 4 % 4) b.group) bank_part.0 in
-      let rank_is : n / 16 ≡ b.rank = eqb-true (n / 16) b.rank group_part.0 in
-      let group_is : n / 4 % 4 ≡ b.group = eqb-true (n / 4 % 4) b.group group_part.1 in
-      let bank_is : n % 4 ≡ b.bank = eqb-true (n % 4) b.bank bank_part.1 in
-      apart (omega arith)))
-]
-
 -- no row is open where all banks are closed
 pub none_open : (rows : List (Option ℕ)) (banks bank : ℕ) → rows ≡ replicate banks None → get_or rows bank None ≡ None
 none_open rows banks bank closed = elim (cases_lt bank (length rows)) [
@@ -374,7 +351,7 @@ none_open rows banks bank closed = elim (cases_lt bank (length rows)) [
 
 -- candidates of closed banks and of no request
 pub first_stand : (candidates : BankCandidates) (banks : ℕ) → candidates.rows.items ≡ replicate banks None → candidates.counts.items ≡ replicate (2 * banks) 0
-    → ((number : ℕ) (hit : Bool) → candidate_in candidates.places.words.items number hit ≡ None) → StandsFor candidates [] (λ bank. None)
+    → ((number : ℕ) (hit : Bool) → candidate_in candidates.candidate_words.words.items number hit ≡ None) → StandsFor candidates [] (λ bank. None)
 unfolding waiting
 first_stand candidates banks closed counts none = from_parts candidates [] (λ bank. None) (record {
   within = λ k d there. absurd (omega arith);

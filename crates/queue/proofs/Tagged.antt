@@ -66,17 +66,17 @@ small access.Read = omega arith
 small access.Write = omega arith
 
 -- only a request that may be served has a tag that tells so
-told : (e : Bool) (w v : Access) (a b : ℕ) → tag_word e w a ≡ tag_word true v b → e ≡ true
-told true w v a b same = refl
-told false w v a b same = absurd (apart (write_bit w) (write_bit v) (small w) same)
+same_word_eligible : (e : Bool) (w v : Access) (a b : ℕ) → tag_word e w a ≡ tag_word true v b → e ≡ true
+same_word_eligible true w v a b same = refl
+same_word_eligible false w v a b same = absurd (apart (write_bit w) (write_bit v) (small w) same)
   where
     apart : (m n : ℕ) → m < 2 → (0 * 2 + m) * 64 + a % 64 ≡ (1 * 2 + n) * 64 + b % 64 → ⊥
     apart m n few same = omega arith
 
-told_of : (e : Bool) (a : Arrived) (v : Access) (b : ℕ) → tag_of e a ≡ tag_word true v b → e ≡ true
-told_of e a v b same = elim (cases_Bool a.waits) [
+same_tag_eligible : (e : Bool) (a : Arrived) (v : Access) (b : ℕ) → tag_of e a ≡ tag_word true v b → e ≡ true
+same_tag_eligible e a v b same = elim (cases_Bool a.waits) [
   | inl waits ↦
-      told e a.request.access v (bank_number a.request.place) b
+      same_word_eligible e a.request.access v (bank_number a.request.place) b
       (sym (ap (λ w. cond w (tag_word e a.request.access (bank_number a.request.place)) served_tag) waits) ∙ same)
   | inr served ↦
       absurd (apart (write_bit v) (sym (ap (λ w. cond w (tag_word e a.request.access (bank_number a.request.place)) served_tag) served) ∙ same))
@@ -92,4 +92,4 @@ marked_tag bank access log tags left tag at next is left_is tag_is exists same =
     let a = get_or log place absent in
     let read : get_or left next 0 ≡ tag_of (is_marked (get_or (eligible_column log) place 0)) a =
     ap (λ xs. get_or xs next 0) left_is ∙ get_or-drop at tags next 0 ∙ ap (λ xs. get_or xs place 0) is ∙ tag_there log place absent exists in
-    told_of (is_marked (get_or (eligible_column log) place 0)) a access bank (sym read ∙ eqb-true (get_or left next 0) tag same ∙ tag_is)
+    same_tag_eligible (is_marked (get_or (eligible_column log) place 0)) a access bank (sym read ∙ eqb-true (get_or left next 0) tag same ∙ tag_is)

@@ -7,7 +7,7 @@ use Rattle.sim_base.specs.declared.message.Access.TheVariants as access
 use Rattle.queue.specs.declared.bank_candidates.sets.BankSet.{BankSet}
 use Rattle.queue.specs.Candidates.{access_number}
 use Rattle.sim_base.specs.Earlier.{earlier}
-use Rattle.queue.specs.Places.{candidate_of, word_of, set_number, Agree, candidate_in, access_in}
+use Rattle.queue.specs.Words.{candidate_of, word_of, set_number, Agree, candidate_in, access_in}
 use Rattle.queue.specs.Sets.{is_in}
 
 -- the word of a bank is that of its access

@@ -10,7 +10,7 @@
 --     access_number bank access, access_number_of r      the number of a bank and an access, and of those of a request
 --     access_count number requests      how many requests ask for a bank and an access
 --     NoneWaits log bank access      no request that waits asks for a bank and an access
---     AreCandidates log bank candidates      each candidate of a bank is the place of the first such request
+--     AreCandidates log bank candidates      a bank's candidates are its first requests that may be served, by place
 use Rattle.std.specs.Prelude.{◌≡◌, ℕ, ◌+◌, ◌*◌, ◌^◌, ◌<◌, ◌==◌, Bool, false, ◌&&◌, List, All, count_by, slice_index_or, position, Option, Some, None}
 use Rattle.std.specs.List.{zip}
 use Rattle.sim_base.specs.Access.{is_access}
@@ -84,8 +84,10 @@ access_count number requests = count_by (λ r. access_number_of r == number) req
 abbrev pub NoneWaits : List Arrived → ℕ → Access → Type 0
 NoneWaits log bank access = access_count (access_number bank access) (waiting_requests log) ≡ 0
 
--- the candidates of a bank to read or to write, where `row` is the open row of the bank, if one is open
-pub record AreFirst (log : List Arrived) (bank : ℕ) (access : Access) (row : Option ℕ) (candidates : AccessCandidates) : Type 0 where
+-- the candidates of a bank to read or to write are the places of its first request that may be served and of the first
+-- of these that asks for `row`, the open row of the bank, if one is open
+pub record AreFirst (log : List Arrived) (bank : ℕ) (access : Access) (row : Option ℕ) (candidates : AccessCandidates)
+    : Type 0 where
   pub oldest_is : candidates.oldest ≡ first_place (asks bank access) log
   pub hit_is : candidates.hit ≡ first_place (hits bank access row) log
 

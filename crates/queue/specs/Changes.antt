@@ -1,9 +1,9 @@
 -- The candidates of a bank and an access among those of all banks, and how they change.
---     HasBank places bank      there are candidates of a bank with this number
---     candidate_at places bank access hit      a candidate of a bank and an access
---     candidates_at places bank access      both candidates of a bank and an access
---     first_at places bank      the first request of a bank that may be served, to read or to write
---     HasNoCandidate places      no bank has a candidate
+--     HasWordsOf candidates bank      there are candidates of a bank with this number
+--     candidate_at candidates bank access hit      a candidate of a bank and an access
+--     candidates_at candidates bank access      both candidates of a bank and an access
+--     first_at candidates bank      the first request of a bank that may be served, to read or to write
+--     HasNoCandidate candidates      no bank has a candidate
 --     SameRoom old new      there are candidates of as many banks as before
 --     SameCandidate old new bank access hit      a candidate stays as it was
 --     SameOthers old new bank access      the candidates of all other banks and accesses stay as they were
@@ -15,65 +15,66 @@ use Rattle.sim_base.specs.Scheduling.{or_else}
 use Rattle.sim_base.specs.declared.message.Access.{Access}
 use Rattle.sim_base.specs.declared.message.Access.TheVariants as access
 use Rattle.queue.specs.declared.bank_candidates.entry.AccessCandidates.{AccessCandidates}
-use Rattle.queue.specs.declared.bank_candidates.places.Places.{Places}
+use Rattle.queue.specs.declared.bank_candidates.candidate_words.CandidateWords.{CandidateWords}
 use Rattle.queue.specs.Candidates.{access_number}
 use Rattle.sim_base.specs.Earlier.{earlier}
-use Rattle.queue.specs.Places.{candidate_in, access_in}
+use Rattle.queue.specs.Words.{candidate_in, access_in}
 
 -- there are candidates of a bank with this number, four words for each bank
-abbrev pub HasBank : Places → ℕ → Type 0
-HasBank places bank = 4 * bank + 3 < length places.words.items
+abbrev pub HasWordsOf : CandidateWords → ℕ → Type 0
+HasWordsOf candidates bank = 4 * bank + 3 < length candidates.words.items
 
 -- a candidate of a bank and an access: the oldest, or the first hit
-abbrev pub candidate_at : Places → ℕ → Access → Bool → Option ℕ
-candidate_at places bank access hit = candidate_in places.words.items (access_number bank access) hit
+abbrev pub candidate_at : CandidateWords → ℕ → Access → Bool → Option ℕ
+candidate_at candidates bank access hit = candidate_in candidates.words.items (access_number bank access) hit
 
 -- both candidates of a bank and an access: the oldest and the first hit
-abbrev pub candidates_at : Places → ℕ → Access → AccessCandidates
-candidates_at places bank access = access_in places.words.items (access_number bank access)
+abbrev pub candidates_at : CandidateWords → ℕ → Access → AccessCandidates
+candidates_at candidates bank access = access_in candidates.words.items (access_number bank access)
 
 -- the first request of a bank that may be served, whether to read or to write
-abbrev pub first_at : Places → ℕ → Option ℕ
-first_at places bank =
-    earlier (candidate_at places bank access.Read false) (candidate_at places bank access.Write false)
+abbrev pub first_at : CandidateWords → ℕ → Option ℕ
+first_at candidates bank =
+    earlier (candidate_at candidates bank access.Read false) (candidate_at candidates bank access.Write false)
 
 -- no bank has a candidate
-abbrev pub HasNoCandidate : Places → Type 0
-HasNoCandidate places = (number : ℕ) (hit : Bool) → candidate_in places.words.items number hit ≡ None
+abbrev pub HasNoCandidate : CandidateWords → Type 0
+HasNoCandidate candidates = (number : ℕ) (hit : Bool) → candidate_in candidates.words.items number hit ≡ None
 
 -- there are candidates of as many banks as before
-abbrev pub SameRoom : Places → Places → Type 0
+abbrev pub SameRoom : CandidateWords → CandidateWords → Type 0
 SameRoom old new = length new.words.items ≡ length old.words.items
 
 -- a candidate stays as it was
-abbrev pub SameCandidate : Places → Places → ℕ → Access → Bool → Type 0
+abbrev pub SameCandidate : CandidateWords → CandidateWords → ℕ → Access → Bool → Type 0
 SameCandidate old new bank access hit = candidate_at new bank access hit ≡ candidate_at old bank access hit
 
 -- all other banks and accesses keep their candidates
-abbrev pub SameOthers : Places → Places → ℕ → Access → Type 0
+abbrev pub SameOthers : CandidateWords → CandidateWords → ℕ → Access → Type 0
 SameOthers old new bank access =
     (number : ℕ) → number ≢ access_number bank access
     → access_in new.words.items number ≡ access_in old.words.items number
 
 -- all other banks keep their candidates
-abbrev pub SameOtherBanks : Places → Places → ℕ → Type 0
+abbrev pub SameOtherBanks : CandidateWords → CandidateWords → ℕ → Type 0
 SameOtherBanks old new bank =
     (other : ℕ) (access : Access) → other ≢ bank → candidates_at new other access ≡ candidates_at old other access
 
 -- A request at a place behind all others has joined the candidates of its bank and access: it is the oldest where
 -- there was none, and if it asks for the open row, it is the first hit where there was none.
-pub record HasNewest (old new : Places) (bank : ℕ) (access : Access) (place : ℕ) (hit : Bool) : Type 0 where
+pub record HasNewest (old new : CandidateWords) (bank : ℕ) (access : Access) (place : ℕ) (hit : Bool) : Type 0 where
   pub oldest_is : candidate_at new bank access false ≡ or_else (candidate_at old bank access false) (Some place)
   pub hit_is : candidate_at new bank access true
       ≡ (if hit then or_else (candidate_at old bank access true) (Some place) else candidate_at old bank access true)
 
 -- A request at any place is taken in: the oldest is the first of it and the one before, and if it asks for the open
 -- row, so is the first hit.
-pub record HasTakenIn (old new : Places) (bank : ℕ) (access : Access) (place : ℕ) (hit : Bool) : Type 0 where
+pub record HasTakenIn (old new : CandidateWords) (bank : ℕ) (access : Access) (place : ℕ) (hit : Bool) : Type 0 where
   pub oldest_is : candidate_at new bank access false ≡ earlier (candidate_at old bank access false) (Some place)
   pub hit_is : candidate_at new bank access true
       ≡ earlier (candidate_at old bank access true) (if hit then Some place else None)
 
 -- no request of a bank is for its open row, so that it has no hits, and its oldest requests stay
-abbrev pub IsClosed : Places → Places → ℕ → Type 0
-IsClosed old new bank = (access : Access) → candidates_at new bank access ≡ record (candidates_at old bank access) { hit = None }
+abbrev pub IsClosed : CandidateWords → CandidateWords → ℕ → Type 0
+IsClosed old new bank =
+    (access : Access) → candidates_at new bank access ≡ record (candidates_at old bank access) { hit = None }

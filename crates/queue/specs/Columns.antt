@@ -70,7 +70,8 @@ line_counter mask place =
     bit_and ((((place.row * 128 + bank_number place) * 1024 + place.column) * 11400714819323198485) % 2 ^ 64 / 2 ^ 32)
     mask
 
--- one of the counters up to `mask`, the same for all requests for a row of a bank, to write or to read
+-- one of the counters up to `mask`: the same for all requests to read a row of a bank, and the next one, modulo
+-- `mask` + 1, for all requests to write it
 unfoldable pub row_counter : ℕ → ℕ → Access → ℕ → ℕ
 row_counter mask bank access row =
     bit_and (((row * 128 + bank) % 2 ^ 64 * 11400714819323198485) % 2 ^ 64 / 2 ^ 32 + write_bit access) mask

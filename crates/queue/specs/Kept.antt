@@ -22,7 +22,7 @@ view_of q =
 -- The requests that wait are counted, and the writes among them. Whether the queue drains is known for this number of
 -- writes. There are places for as many requests as may wait.
 pub record AreKept (q : Inside) : Type 0 where
-  pub waiting_are : q.waiting ≡ length (waiting_requests q.log.log)
+  pub waiting_are : q.waiting_count ≡ length (waiting_requests q.log.log)
   pub writes_are : q.writes ≡ write_count (waiting_requests q.log.log)
   pub drains_are : q.drains ≡ drains_by q.high q.low q.drain_decided q.writes
   pub within : length (waiting_requests q.log.log) ≤ q.room

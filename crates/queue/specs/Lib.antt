@@ -8,7 +8,7 @@ pub mod RequestLogKept
 pub mod Candidates
 pub mod Changes
 pub mod Moves
-pub mod Places
+pub mod Words
 pub mod Served
 pub mod Sets
 pub mod Stands

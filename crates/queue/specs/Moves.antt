@@ -2,7 +2,7 @@
 --     before place candidate      a place, if it stands before another
 --     NonePassesBefore test log place      no request before a place may be served and passes a test
 --     IsFirstFrom test log from found      what a search from a place on finds
---     IsFirstHit log bank access row oldest hit      the first request for the open row
+--     IsFirstHit log bank access row oldest hit      the first request for the open row that may be served
 use Rattle.std.specs.Prelude.{◌≡◌, ℕ, ◌<◌, nat_lt, Bool, false, List, length, slice_index_or, Option, Some, None, if◌then◌else◌}
 use Rattle.sim_base.specs.declared.message.Access.{Access}
 use Rattle.sim_base.specs.declared.message.Request.{Request}
@@ -17,15 +17,16 @@ before place (Some k) = if nat_lt k place then Some k else None
 -- no request before a place may be served and passes a test
 abbrev pub NonePassesBefore : (Request → Bool) → List Arrived → ℕ → Type 0
 NonePassesBefore test log place =
-    (k : ℕ) (d : Request × ℕ) → k < place → k < length log → passes test (slice_index_or (marked_requests log) k d) ≡ false
+    (k : ℕ) (d : Request × ℕ) → k < place → k < length log
+    → passes test (slice_index_or (marked_requests log) k d) ≡ false
 
 -- What a search from place `from` on finds: the first request that may be served and passes a test, where none before
 -- that place does.
 abbrev pub IsFirstFrom : (Request → Bool) → List Arrived → ℕ → Option ℕ → Type 0
 IsFirstFrom test log from found = NonePassesBefore test log from → found ≡ first_place test log
 
--- The first request of a bank and an access that asks for its open row, where `oldest` is the first of the bank and
--- the access.
+-- The first request of a bank and an access that may be served and asks for the open row `row`, where `oldest` is the
+-- first one that may be served, whatever row it asks for.
 abbrev pub IsFirstHit : List Arrived → ℕ → Access → Option ℕ → Option ℕ → Option ℕ → Type 0
 IsFirstHit log bank access row oldest hit =
     oldest ≡ first_place (asks bank access) log → hit ≡ first_place (hits bank access row) log

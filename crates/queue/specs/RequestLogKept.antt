@@ -1,5 +1,5 @@
 -- What a log keeps beside its requests.
---     AreKept inside      the tags are those of the log, and the requests that wait and the blocked ones are counted
+--     AreTagged inside      the tags are those of the log, and the requests that wait and the blocked ones are counted
 use Rattle.std.specs.Prelude.{◌≡◌, ◌-◌, ◌^◌, ◌<◌, ◌≤◌, length, vec_capacity}
 use Rattle.queue.specs.declared.request_log.RequestLog.TheInside.{Inside}
 use Rattle.queue.specs.Log.{waiting_requests}
@@ -7,7 +7,7 @@ use Rattle.queue.specs.Columns.{tag_column, blocked_count, counter_of_line, coun
 
 -- The tags are those of the log, each counter counts its lines or its rows among the requests that wait, and those that
 -- are blocked are counted. There is room for `places` requests, which are fewer than 2^16 - 1.
-pub record AreKept (l : Inside) : Type 0 where
+pub record AreTagged (l : Inside) : Type 0 where
   pub tags_are : l.tags.items ≡ tag_column l.log.items
   pub blocked_are : l.blocked ≡ blocked_count l.log.items
   pub masked : l.mask < length l.lines.items

@@ -1,10 +1,10 @@
 -- A log once a request has been served, since when one more may be served, if there is one.
 --     passing test log candidate      a place, if the request there passes a test
 --     IsServed earlier place unblocked log      a log once a request is served, and the one unblocked by that
---     AreFirstWith log bank access row unblocked candidates      the candidates once the unblocked request is taken in
---     AreFirstWithout departure log row unblocked candidates      the candidates of the bank and access of a departure
---     candidate_for places departure hit      a candidate of the bank and access of a departure
---     candidates_for places departure      both candidates of the bank and access of a departure
+--     AreFirstWith log bank access row unblocked candidates      they are first once the unblocked one is taken in
+--     AreFirstWithout departure log row unblocked candidates      AreFirstWith for a departure's bank and access
+--     candidate_for candidates departure hit      a candidate of the bank and access of a departure
+--     candidates_for candidates departure      both candidates of the bank and access of a departure
 --     wants_like departure row      a request is of the departure's bank and access, and asks for a row if one is given
 --     HasDeparted old new log departure row      the request that was served is no longer among the candidates
 use Rattle.std.specs.Prelude.{◌≡◌, ℕ, ◌<◌, Bool, true, List, length, slice_index_or, Option, Some, None, IfSome, if◌then◌else◌}
@@ -13,8 +13,8 @@ use Rattle.sim_base.specs.declared.message.Request.{Request}
 use Rattle.queue.specs.declared.request_log.Arrived.{Arrived}
 use Rattle.queue.specs.Log.{absent, served_at, waits_at, eligible_column, marks_once_served}
 use Rattle.queue.specs.declared.bank_candidates.entry.AccessCandidates.{AccessCandidates}
-use Rattle.queue.specs.declared.bank_candidates.places.Departure.{Departure}
-use Rattle.queue.specs.declared.bank_candidates.places.Places.{Places}
+use Rattle.queue.specs.declared.bank_candidates.candidate_words.Departure.{Departure}
+use Rattle.queue.specs.declared.bank_candidates.candidate_words.CandidateWords.{CandidateWords}
 use Rattle.queue.specs.Candidates.{asks, hits, wants, first_place, AreFirst, NoneWaits}
 use Rattle.queue.specs.Changes.{candidate_at, candidates_at}
 use Rattle.sim_base.specs.Earlier.{earlier}
@@ -32,27 +32,28 @@ pub record IsServed (earlier : List Arrived) (place : ℕ) (unblocked : Option �
   pub marks_are : eligible_column log ≡ marks_once_served earlier place unblocked
   pub next : IfSome unblocked (λ k. k < length log)
 
--- The candidates of a bank to read or to write, where `row` is open, once the request at place `unblocked`, which may
--- be served now, is taken in, if there is one.
-pub record AreFirstWith (log : List Arrived) (bank : ℕ) (access : Access) (row : Option ℕ) (unblocked : Option ℕ) (candidates : AccessCandidates) : Type 0 where
+-- The candidates of a bank to read or to write, where `row` is open, become the first ones of the log when the request
+-- at place `unblocked`, which may be served now, is taken in, if there is one.
+pub record AreFirstWith (log : List Arrived) (bank : ℕ) (access : Access) (row : Option ℕ) (unblocked : Option ℕ)
+    (candidates : AccessCandidates) : Type 0 where
   pub oldest_is : earlier candidates.oldest (passing (asks bank access) log unblocked)
       ≡ first_place (asks bank access) log
   pub hit_is : earlier candidates.hit (passing (hits bank access row) log unblocked)
       ≡ first_place (hits bank access row) log
 
--- The candidates of the bank and the access of a request that has been served, once the request at place `unblocked`,
--- which may be served now, is taken in, if there is one.
+-- The candidates of the bank and the access of a request that has been served become the first ones of the log when the
+-- request at place `unblocked`, which may be served now, is taken in, if there is one.
 abbrev pub AreFirstWithout : Departure → List Arrived → Option ℕ → Option ℕ → AccessCandidates → Type 0
 AreFirstWithout departure log row unblocked candidates =
     AreFirstWith log departure.bank departure.access row unblocked candidates
 
 -- a candidate of the bank and the access of the request that was served
-abbrev pub candidate_for : Places → Departure → Bool → Option ℕ
-candidate_for places departure hit = candidate_at places departure.bank departure.access hit
+abbrev pub candidate_for : CandidateWords → Departure → Bool → Option ℕ
+candidate_for candidates departure hit = candidate_at candidates departure.bank departure.access hit
 
 -- both candidates of the bank and the access of the request that was served: the oldest and the first hit
-abbrev pub candidates_for : Places → Departure → AccessCandidates
-candidates_for places departure = candidates_at places departure.bank departure.access
+abbrev pub candidates_for : CandidateWords → Departure → AccessCandidates
+candidates_for candidates departure = candidates_at candidates departure.bank departure.access
 
 -- a request is of the bank and the access of the one that was served, and asks for a row if one is given
 abbrev pub wants_like : Departure → Option ℕ → Request → Bool
@@ -62,7 +63,7 @@ wants_like departure row = wants departure.bank departure.access row
 -- access, where this row is open: if they were the first ones of the log before, they are the first ones of this log,
 -- once a request that may be served since then is taken in, if there is one. Where the departure says that the bank and
 -- the access are empty, no request that waits asks for them.
-abbrev pub HasDeparted : Places → Places → List Arrived → Departure → Option ℕ → Type 0
+abbrev pub HasDeparted : CandidateWords → CandidateWords → List Arrived → Departure → Option ℕ → Type 0
 HasDeparted old new log departure row =
     (earlier : List Arrived) (unblocked : Option ℕ)
     → IsServed earlier departure.place unblocked log

@@ -25,7 +25,7 @@ use Rattle.queue.specs.Candidates.{access_number, RowsFit, access_count, AreCand
 use Rattle.sim_base.specs.Places.{number_of_bank}
 use Rattle.sim_base.specs.Earlier.{earlier}
 use Rattle.queue.specs.Served.{AreFirstWith}
-use Rattle.queue.specs.Places.{access_in}
+use Rattle.queue.specs.Words.{access_in}
 
 -- for how many banks the candidates of a channel were made
 abbrev pub bank_count : BankCandidates → ℕ
@@ -36,8 +36,8 @@ abbrev pub candidates_of_bank : BankCandidates → ℕ → CandidatesOfBank
 candidates_of_bank candidates bank =
     record {
       row = slice_index_or candidates.rows.items bank None;
-      reads = access_in candidates.places.words.items (access_number bank access.Read);
-      writes = access_in candidates.places.words.items (access_number bank access.Write);
+      reads = access_in candidates.candidate_words.words.items (access_number bank access.Read);
+      writes = access_in candidates.candidate_words.words.items (access_number bank access.Write);
     }
 
 -- the candidates of a bank to write, or to read
@@ -55,8 +55,8 @@ abbrev pub row_of_bank : BankCandidates → ℕ → Option ℕ
 row_of_bank candidates bank = (candidates_of_bank candidates bank).row
 
 -- Every request asks for one of the banks, and for a row of 32 bits; the row of each bank is the one that is open, each
--- candidate is the place of the first such request, and each counter says how many requests that wait ask for its bank
--- and access.
+-- candidate is the place of the first request of its bank and access that may be served, or of the first of these for
+-- the open row, and each counter says how many requests that wait ask for its bank and access.
 pub record StandsFor (candidates : BankCandidates) (log : List Arrived) (open_rows : ℕ → Option ℕ) : Type 0 where
   pub within : All (λ r. bank_number r.place < bank_count candidates) (all_requests log)
   pub rows_fit : RowsFit (all_requests log)
@@ -68,13 +68,14 @@ pub record StandsFor (candidates : BankCandidates) (log : List Arrived) (open_ro
 
 -- The candidates of all banks will stand for a log once the request at place `unblocked` is taken in, which may be
 -- served since another one was, if there is one.
-pub record StandsUpTo (candidates : BankCandidates) (log : List Arrived) (unblocked : Option ℕ) (open_rows : ℕ → Option ℕ) : Type 0 where
+pub record StandsUpTo (candidates : BankCandidates) (log : List Arrived) (unblocked : Option ℕ)
+    (open_rows : ℕ → Option ℕ) : Type 0 where
   pub within : All (λ r. bank_number r.place < bank_count candidates) (all_requests log)
   pub rows_fit : RowsFit (all_requests log)
   pub rows_are : (bank : ℕ) → bank < bank_count candidates → row_of_bank candidates bank ≡ open_rows bank
   pub candidates_are : (bank : ℕ) (access : Access) → bank < bank_count candidates
       → AreFirstWith log bank access (open_rows bank) unblocked
-      (access_in candidates.places.words.items (access_number bank access))
+      (access_in candidates.candidate_words.words.items (access_number bank access))
   pub counts_are : (number : ℕ) → number < length candidates.counts.items
       → slice_index_or candidates.counts.items number 0 ≡ access_count number (waiting_requests log)
 

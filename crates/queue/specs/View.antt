@@ -23,8 +23,7 @@ pub record QueueView : Type 0 where
   pub log : List Arrived
   pub drain_decided : Bool
 
--- for how many requests a queue has places, where `room` may wait: those that wait move to the front once in as many
--- arrivals as there are further places
+-- for how many requests a queue has places, where `room` may wait: twice as many and 256 more, but at most 65,534
 abbrev pub places_for : ℕ → ℕ
 places_for room = min (room * 2 + 256) 65534
 

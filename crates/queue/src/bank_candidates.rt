@@ -2,8 +2,8 @@
 //! served, and the first of these that asks for the bank's open row.
 
 pub mod all_banks;
+mod candidate_words;
 mod entry;
-mod places;
 mod search;
 mod sets;
 

@@ -16,8 +16,8 @@ use std::marker::Model;
 /// The highest number of places that a log may have.
 const MOST_PLACES: usize = 65_534;
 
-/// The requests that wait move to the front where more than twice as many and this number have arrived since they last
-/// did, so that a log in which few wait stays short, and its places in the caches.
+/// The requests that wait move to the front where more places are in use than twice as many and this number, so that a
+/// log in which few wait stays short, and its places in the caches.
 const SPARE_PLACES: usize = 256;
 
 /// Whether a queue with `writes` writes drains, given whether it drained before.
@@ -50,7 +50,7 @@ pub struct Queue {
     /// Whether the channel drains its writes with those that wait.
     drains: bool,
     /// How many requests wait.
-    waiting: usize,
+    waiting_count: usize,
     /// How many of the requests that wait are writes.
     writes: usize,
     log: RequestLog,
@@ -84,7 +84,7 @@ impl Queue {
             low,
             drain_decided: false,
             drains: false,
-            waiting: 0,
+            waiting_count: 0,
             writes: 0,
             log: RequestLog::with_places(alloc, places_for(room), room)?,
         })
@@ -96,7 +96,7 @@ impl Queue {
         ensures value { result ≡ length (waiting_requests self.now.log) }
         ensures short { result < 2 ^ 16 - 1 }
     {
-        self.waiting
+        self.waiting_count
     }
 
     /// The requests that have arrived, by age, some of which wait.
@@ -116,7 +116,7 @@ impl Queue {
         ensures kept { result ≡ false → self.new ≡ self.old }
         ensures moved { result ≡ true → self.new ≡ renumbered self.old }
     {
-        if count <= self.log.free() && self.log.len() <= self.waiting * 2 + SPARE_PLACES {
+        if count <= self.log.free() && self.log.len() <= self.waiting_count * 2 + SPARE_PLACES {
             return false;
         }
         self.log.renumber();
@@ -131,7 +131,7 @@ impl Queue {
         ensures { self.new ≡ with_request self.old request }
     {
         self.log.arrive(request);
-        self.waiting += 1;
+        self.waiting_count += 1;
         if Access::Write.is_access(request.access) {
             self.writes += 1;
             self.drains = drains(self.high, self.low, self.drain_decided, self.writes);
@@ -151,7 +151,7 @@ impl Queue {
     {
         let access = self.log.log()[place].request.access;
         let unblocked = self.log.serve(place);
-        self.waiting -= 1;
+        self.waiting_count -= 1;
         if Access::Write.is_access(access) {
             self.writes -= 1;
             self.drains = drains(self.high, self.low, self.drain_decided, self.writes);
@@ -169,10 +169,10 @@ impl Queue {
     }
 
     /// The requests that wait, by age.
-    pub fn waiting(&self, alloc: Global) -> Result<Vec<Request>, AllocError>
+    pub fn waiting_requests(&self, alloc: Global) -> Result<Vec<Request>, AllocError>
         ensures { IfOk result (λ requests. requests.items ≡ waiting_requests self.now.log) }
     {
-        self.log.waiting(alloc)
+        self.log.waiting_requests(alloc)
     }
 
     /// Decides whether the queue drains with the requests that wait, as it does once in each cycle.

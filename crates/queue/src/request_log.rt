@@ -78,7 +78,7 @@ fn keep_waiting(log: &[Arrived], tags: &mut Vec<u8>)
 }
 
 /// The requests that have arrived at a channel, by age. A request that is served keeps its place, so that no other one
-/// moves, until there is no place left for one that arrives.
+/// moves, until `renumber` moves those that wait to the front.
 #[derive(Drop)]
 pub struct RequestLog {
     /// How many requests there are places for.
@@ -104,13 +104,13 @@ pub struct RequestLog {
 
 impl Model for RequestLog {
     ghost use Rattle.queue.specs.Log.{LogView};
-    ghost use Rattle.queue.specs.RequestLogKept.{AreKept};
+    ghost use Rattle.queue.specs.RequestLogKept.{AreTagged};
 
     ghost Value = { LogView };
 
     ghost view = { λ l. record { places = l.places; log = l.log.items } };
 
-    ghost invariant = { AreKept };
+    ghost invariant = { AreTagged };
 }
 
 impl RequestLog {
@@ -312,7 +312,7 @@ impl RequestLog {
     }
 
     /// The requests that wait, by age.
-    pub fn waiting(&self, alloc: Global) -> Result<Vec<Request>, AllocError>
+    pub fn waiting_requests(&self, alloc: Global) -> Result<Vec<Request>, AllocError>
         ensures { IfOk result (λ requests. requests.items ≡ waiting_requests self.now.log) }
     {
         let mut requests = Vec::new(alloc);

@@ -29,7 +29,8 @@ pub record Fits (may_give : ℕ → List JobView → List JobView → Type 0) (p
   pub whole : fault_in phase arranged ≡ None
 
 -- it is not one result of each job, and this is what is wrong with it
-pub record DoNotFit (may_give : ℕ → List JobView → List JobView → Type 0) (phase : PhaseView) (cause : MergeFault) : Type 0 where
+pub record DoNotFit (may_give : ℕ → List JobView → List JobView → Type 0) (phase : PhaseView) (cause : MergeFault)
+    : Type 0 where
   pub arranged : List JobView
   pub given : may_give phase.number (jobs_of phase) arranged
   pub fault_is : fault_in phase arranged ≡ Some cause
@@ -60,7 +61,8 @@ pub record IsAsFar (sim later : SimView) : Type 0 where
 
 -- A run has come to where a simulator stands by phases in so many shards whose results fitted: it stands at the end
 -- of the last, or later.
-pub record HasCome (may_give : ℕ → List JobView → List JobView → Type 0) (shards : ℕ) (sim : SimView) (limit : ℕ) (later : SimView) : Type 0 where
+pub record HasCome (may_give : ℕ → List JobView → List JobView → Type 0) (shards : ℕ) (sim : SimView) (limit : ℕ)
+    (later : SimView) : Type 0 where
   pub phases : List PhaseView
   pub fitted : AreFitted may_give shards sim limit phases
   pub far : IsAsFar (after sim phases) later
@@ -73,7 +75,8 @@ run_fault (merging.Stranger index) = Merge (merging.Stranger index)
 run_fault merging.Memory = Memory
 
 -- the results of a phase do not fit as the order gives them, and the fault says why
-pub record IsBlamed (may_give : ℕ → List JobView → List JobView → Type 0) (phase : PhaseView) (fault : Fault) : Type 0 where
+pub record IsBlamed (may_give : ℕ → List JobView → List JobView → Type 0) (phase : PhaseView) (fault : Fault)
+    : Type 0 where
   pub cause : MergeFault
   pub misfit : DoNotFit may_give phase cause
   pub fault_is : fault ≡ Merge cause
@@ -84,7 +87,8 @@ IsMisfit may_give phase fault = (fault ≡ Memory) ⊎ IsBlamed may_give phase f
 
 -- After phases whose results fitted, which the run went through from its first, the next one has results that do not
 -- fit as the order gives them, and the fault says why.
-pub record StopsAtMisfit (may_give : ℕ → List JobView → List JobView → Type 0) (shards : ℕ) (sim : SimView) (limit : ℕ) (fault : Fault) : Type 0 where
+pub record StopsAtMisfit (may_give : ℕ → List JobView → List JobView → Type 0) (shards : ℕ) (sim : SimView) (limit : ℕ)
+    (fault : Fault) : Type 0 where
   pub phases : List PhaseView
   pub phase : PhaseView
   pub fitted : AreFitted may_give shards sim limit phases

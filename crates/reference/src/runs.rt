@@ -25,8 +25,9 @@ pub fn simulate_plain<R: Threads + Sync>(
 ) -> Result<Outcome, Fault>
     ensures run { IfOk result (IsRun input.entry options) }
     ensures legal { IfOk result (IsLegal input.entry options) }
-    ensures refused { IfErr result
-        (IsInputFault input.entry.config.now (texts_of input.entry.traces.now) options.cycles options.workers.count) }
+    ensures refused { IfErr result (IsInputFault
+        input.entry.config.now (texts_of input.entry.traces.now)
+        options.cycles options.workers.count) }
 {
     let RunOptions {
         cycles,

@@ -13,7 +13,7 @@ use Rattle.reports.specs.Stats.{stats_header, value_fields, core_rows, usual_val
 use Rattle.statistics.specs.Counters.{counter_of, named}
 use Rattle.statistics.specs.declared.counters.Counter.{Counter}
 use Rattle.request_table.specs.declared.times.RequestTimes.{RequestTimes}
-use Rattle.statistics.specs.Values.{RunStats, LastState}
+use Rattle.statistics.specs.Values.{RunStats, FinalView}
 use Rattle.statistics.specs.declared.channels.ChannelStats.{ChannelStats}
 use Rattle.sim_base.specs.declared.command.IssuedCommand.{IssuedCommand}
 use Rattle.sim_base.proofs.Lists.{enumerate-append}
@@ -141,7 +141,7 @@ stats_text-parts stats =
     ∙ sym (append_assoc (row_text stats_header ++ row_text run) (rows_text cores) (rows_text channels))
 
 -- the parts of the table of the final state
-pub final_text-parts : (ranks : ℕ) (state : LastState) → final_text ranks state
+pub final_text-parts : (ranks : ℕ) (state : FinalView) → final_text ranks state
     ≡ row_text (final_header ranks) ++ rows_text (numbered (progress_rows ranks) state.cores) ++ rows_text (numbered (credits_of_core ranks) state.cores)
     ++ rows_text (numbered (final.channel_rows ranks) state.channels) ++ rows_text (map (flight_fields ranks (length state.channels)) state.in_flight)
 unfolding final_text

@@ -13,7 +13,7 @@ use Rattle.sim_base.specs.declared.message.Message.{Message}
 use Rattle.sim_base.specs.declared.message.Request.{Request}
 use Rattle.sim_base.specs.declared.message.Access.{Access}
 use Rattle.sim_base.specs.declared.message.Access.TheVariants as access
-use Rattle.statistics.specs.Values.{LastCore, LastChannel, LastState}
+use Rattle.statistics.specs.Values.{FinalCore, FinalChannel, FinalView}
 use Rattle.statistics.specs.declared.final_state.Credits.{Credits}
 use Rattle.statistics.specs.declared.final_state.OpenRow.{OpenRow}
 use Rattle.sim_base.specs.Scheduling.{entry_in}
@@ -28,18 +28,29 @@ final_header ranks =
 abbrev pub final_fields : ℕ → List ℕ → Numbers → List (List ℕ)
 final_fields ranks item numbers =
     item ∷ optional numbers.core ∷ optional numbers.channel ∷ (rank_field ranks (optional numbers.rank)
-    ++ (optional numbers.group ∷ optional numbers.bank ∷ optional numbers.entry ∷ optional numbers.cycle ∷ optional numbers.value ∷ []))
+    ++ (optional numbers.group ∷ optional numbers.bank ∷ optional numbers.entry ∷ optional numbers.cycle
+    ∷ optional numbers.value ∷ []))
 
 -- no number
 abbrev pub blank : Numbers
-blank = record { core = None; channel = None; rank = None; group = None; bank = None; entry = None; cycle = None; value = None }
+blank =
+    record {
+      core = None;
+      channel = None;
+      rank = None;
+      group = None;
+      bank = None;
+      entry = None;
+      cycle = None;
+      value = None;
+    }
 
 -- a count of a core, or of what it holds for a channel
 abbrev pub core_numbers : ℕ → Option ℕ → ℕ → Numbers
 core_numbers core channel count = record blank { core = Some core; channel = channel; value = Some count }
 
 -- how many entries a core issued and retired
-abbrev pub progress_rows : ℕ → ℕ → LastCore → List (List (List ℕ))
+abbrev pub progress_rows : ℕ → ℕ → FinalCore → List (List (List ℕ))
 progress_rows ranks core state =
     final_fields ranks (codes "issued") (core_numbers core None state.issued)
     ∷ final_fields ranks (codes "retired") (core_numbers core None state.retired)
@@ -53,7 +64,7 @@ credit_rows ranks core channel credits =
     ∷ []
 
 -- the credits that a core holds, by channel
-abbrev pub credits_of_core : ℕ → ℕ → LastCore → List (List (List ℕ))
+abbrev pub credits_of_core : ℕ → ℕ → FinalCore → List (List (List ℕ))
 credits_of_core ranks core state = numbered (credit_rows ranks core) state.credits
 
 -- the refreshes that are due to a rank of a channel
@@ -98,7 +109,7 @@ abbrev pub queued_fields : ℕ → ℕ → Request → List (List ℕ)
 queued_fields ranks channel request = final_fields ranks (queued_item request.access) (queued_numbers channel request)
 
 -- a channel: the refreshes that are due, by rank, its open rows, and its queue
-abbrev pub channel_rows : ℕ → ℕ → LastChannel → List (List (List ℕ))
+abbrev pub channel_rows : ℕ → ℕ → FinalChannel → List (List (List ℕ))
 channel_rows ranks channel state =
     numbered (due_rows ranks channel) state.due
     ++ (map (open_fields ranks channel) state.open_rows ++ map (queued_fields ranks channel) state.queue)
@@ -134,7 +145,7 @@ flight_fields ranks channels message =
     final_fields ranks (flight_item message.payload) (flight_numbers channels message)
 
 -- the rows: the progress of each core, the credits of each core, each channel, and the messages in flight
-abbrev pub final_rows : ℕ → LastState → List (List (List ℕ))
+abbrev pub final_rows : ℕ → FinalView → List (List (List ℕ))
 final_rows ranks state =
     numbered (progress_rows ranks) state.cores
     ++ (numbered (credits_of_core ranks) state.cores
@@ -142,5 +153,5 @@ final_rows ranks state =
     ++ map (flight_fields ranks (length state.channels)) state.in_flight))
 
 -- the table of the state in which a run ends
-unfoldable pub final_text : ℕ → LastState → List ℕ
+unfoldable pub final_text : ℕ → FinalView → List ℕ
 final_text ranks state = table_text (final_header ranks) (final_rows ranks state)

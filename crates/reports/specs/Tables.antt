@@ -3,10 +3,10 @@
 --     waiting table      the text of the rows that wait
 --     held contents writer table      what the writer holds, and then the rows that wait
 --     IsWhole table      no row was lost
---     AddsRows contents writer table writer' table' text      unless a row was lost, this text was added to what both hold
+--     AddsRows contents writer table writer' table' text      unless a row was lost, both hold this text more
 --     KeepsRows contents writer table writer' table'      unless a row was lost, both hold what they held
 --     KeepsOnOk result contents writer table writer' table'      on Ok, both hold what they held
---     SendsOnOk result contents writer table writer'      on Ok, no row was lost, and the writer alone holds what both held
+--     SendsOnOk result contents writer table writer'      on Ok, no row was lost, and the writer holds what both held
 use Rattle.std.specs.Prelude.{◌≡◌, ℕ, List, ◌++◌, Option, None, Result, OnOk}
 use Rattle.std.specs.Io.KnownBytes.{Appends, Keeps, append_known}
 use Rattle.csv.specs.Writing.{writer_under, writer_pending}

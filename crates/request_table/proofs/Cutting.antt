@@ -6,34 +6,34 @@ use Rattle.std.proofs.lemmas.List.{map-append, append-nil, append_assoc}
 use Rattle.std.proofs.lemmas.List.Concat.{flat_map-append}
 use Rattle.sim_base.specs.declared.config.Config.{Config}
 use Rattle.request_table.specs.declared.served_requests.ServedRequest.{ServedRequest}
-use Rattle.request_table.specs.Tables.{AreServed, IsInOrder, served_at, by_cycle, rows_up_to, rows_after, times_of, times_by_cycle}
+use Rattle.request_table.specs.Tables.{AreServedBetween, IsInOrder, served_at, by_cycle, rows_up_to, rows_after, times_of, times_by_cycle}
 use Rattle.request_table.proofs.Cycles.{flat-parts}
 
 -- those that were served in a cycle
 abbrev pub at : ℕ → List ServedRequest → List ServedRequest
 at cycle rows = filter (λ row. eqb row.served cycle) rows
 
-pub served-earlier : (from earlier until : ℕ) → earlier ≤ from → (rows : List ServedRequest) → AreServed from until rows → AreServed earlier until rows
+pub served-earlier : (from earlier until : ℕ) → earlier ≤ from → (rows : List ServedRequest) → AreServedBetween from until rows → AreServedBetween earlier until rows
 served-earlier from earlier until l [] h = tt
 served-earlier from earlier until l (row ∷ rows) h = (omega (arith, l, h.0), h.1, h.2)
 
-pub served-rest : (from until : ℕ) (rows : List ServedRequest) → AreServed from until rows → AreServed from until (drop 1 rows)
+pub served-rest : (from until : ℕ) (rows : List ServedRequest) → AreServedBetween from until rows → AreServedBetween from until (drop 1 rows)
 served-rest from until [] h = tt
 served-rest from until (row ∷ rows) h = served-earlier row.served from until h.0 rows h.2
 
-pub served-filter : (p : ServedRequest → Bool) (from until : ℕ) (rows : List ServedRequest) → AreServed from until rows → AreServed from until (filter p rows)
+pub served-filter : (p : ServedRequest → Bool) (from until : ℕ) (rows : List ServedRequest) → AreServedBetween from until rows → AreServedBetween from until (filter p rows)
 served-filter p from until [] h = tt
 served-filter p from until (row ∷ rows) h =
-    cond_both (p row) (row ∷ filter p rows) (filter p rows) (AreServed from until) (λ e. (h.0, h.1, served-filter p row.served until rows h.2))
+    cond_both (p row) (row ∷ filter p rows) (filter p rows) (AreServedBetween from until) (λ e. (h.0, h.1, served-filter p row.served until rows h.2))
     (λ e. served-earlier row.served from until h.0 (filter p rows) (served-filter p row.served until rows h.2))
 
 -- each is served from the cycle on
-from-get : (from until : ℕ) (rows : List ServedRequest) (j : ℕ) (d : ServedRequest) → AreServed from until rows → j < length rows → from ≤ (get_or rows j d).served
+from-get : (from until : ℕ) (rows : List ServedRequest) (j : ℕ) (d : ServedRequest) → AreServedBetween from until rows → j < length rows → from ≤ (get_or rows j d).served
 from-get from until [] j d h l = absurd (omega (arith, l))
 from-get from until (row ∷ rows) zero d h l = h.0
 from-get from until (row ∷ rows) (suc j) d h l = let k = from-get row.served until rows j d h.2 (omega (arith, l)) in omega (arith, k, h.0)
 
-in-order : (from until : ℕ) (rows : List ServedRequest) (i j : ℕ) (d : ServedRequest) → AreServed from until rows → i ≤ j → j < length rows → (get_or rows i d).served ≤ (get_or rows j d).served
+in-order : (from until : ℕ) (rows : List ServedRequest) (i j : ℕ) (d : ServedRequest) → AreServedBetween from until rows → i ≤ j → j < length rows → (get_or rows i d).served ≤ (get_or rows j d).served
 in-order from until [] i j d h m l = absurd (omega (arith, l))
 in-order from until (row ∷ rows) zero zero d h m l = omega arith
 in-order from until (row ∷ rows) zero (suc j) d h m l = from-get row.served until rows j d h.2 (omega (arith, l))
@@ -120,7 +120,7 @@ pub times-parts : (s : Config) (cycle cycles : ℕ) (lists : List (List ServedRe
 times-parts s cycle cycles lists = ap (map (times_of s cycles)) (table-parts cycle cycles lists) ∙ map-append (times_of s cycles) _ _
 
 -- each part is in order
-pub all-served-filter : (p : ServedRequest → Bool) (until : ℕ) (lists : List (List ServedRequest)) → All (AreServed 0 until) lists → All (AreServed 0 until) (map (filter p) lists)
+pub all-served-filter : (p : ServedRequest → Bool) (until : ℕ) (lists : List (List ServedRequest)) → All (AreServedBetween 0 until) lists → All (AreServedBetween 0 until) (map (filter p) lists)
 all-served-filter p until [] h k d l = absurd (omega (arith, l))
 all-served-filter p until (rows ∷ lists) h zero d l = served-filter p 0 until rows (h 0 rows (omega arith))
 all-served-filter p until (rows ∷ lists) h (suc k) d l = all-served-filter p until lists (λ i e m. h (suc i) e (omega (arith, m))) k d (omega (arith, l))

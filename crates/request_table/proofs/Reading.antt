@@ -8,7 +8,7 @@ use Rattle.std.proofs.lemmas.List.Elements.{recursion_from_All, All-nil, All-con
 use Rattle.sim_base.specs.declared.config.Config.{Config}
 use Rattle.request_table.specs.declared.served_requests.ServedRequest.{ServedRequest}
 use Rattle.request_table.specs.Lefts.{first_cycle, IsNext}
-use Rattle.request_table.specs.Tables.{AreServed, served_at, by_cycle, times_of, times_by_cycle}
+use Rattle.request_table.specs.Tables.{AreServedBetween, served_at, by_cycle, times_of, times_by_cycle}
 use Rattle.request_table.proofs.Cycles.{flat-none, flat-first}
 use Rattle.request_table.proofs.Cutting.{at, served-rest}
 
@@ -19,12 +19,12 @@ From cycle rows = IfSome (first_cycle rows) (λ first. cycle ≤ first)
 abbrev After : ℕ → List ServedRequest → Type 0
 After cycle rows = IfSome (first_cycle rows) (λ first. cycle < first)
 
-none-at : (t from until : ℕ) → t < from → (rows : List ServedRequest) → AreServed from until rows → at t rows ≡ []
+none-at : (t from until : ℕ) → t < from → (rows : List ServedRequest) → AreServedBetween from until rows → at t rows ≡ []
 none-at t from until l [] h = refl
 none-at t from until l (row ∷ rows) h = cond-false _ _ _ (ne_eqb row.served t (λ e. omega (arith, l, h.0, e))) ∙ none-at t row.served until (omega (arith, l, h.0)) rows h.2
 
 -- a list that begins after a cycle has none in it
-none-before : (t cycle until : ℕ) → t < cycle → (rows : List ServedRequest) → AreServed 0 until rows → From cycle rows → at t rows ≡ []
+none-before : (t cycle until : ℕ) → t < cycle → (rows : List ServedRequest) → AreServedBetween 0 until rows → From cycle rows → at t rows ≡ []
 none-before t cycle until l [] h f = refl
 none-before t cycle until l (row ∷ rows) h f = none-at t cycle until l (row ∷ rows) (f, h.1, h.2)
 
@@ -49,12 +49,12 @@ begins-tail rows lists place row rest b =
     }
 
 -- no list has one before the cycle of the first
-all-none : (t cycle until : ℕ) → t < cycle → (lists : List (List ServedRequest)) → Each (AreServed 0 until) lists → ((k : ℕ) → k < length lists → From cycle (get_or lists k [])) → served_at lists t ≡ []
+all-none : (t cycle until : ℕ) → t < cycle → (lists : List (List ServedRequest)) → Each (AreServedBetween 0 until) lists → ((k : ℕ) → k < length lists → From cycle (get_or lists k [])) → served_at lists t ≡ []
 all-none t cycle until l [] h f = refl
 all-none t cycle until l (rows ∷ lists) h f =
     ap₂ (λ x y. x ++ y) (none-before t cycle until l rows h.0 (f 0 (omega arith))) (all-none t cycle until l lists h.1 (λ k m. f (suc k) (omega (arith, m))))
 
-earlier : (t until : ℕ) (lists : List (List ServedRequest)) (place : ℕ) (row : ServedRequest) (rest : List ServedRequest) → t < row.served → Each (AreServed 0 until) lists → Begins lists place row rest → served_at lists t ≡ []
+earlier : (t until : ℕ) (lists : List (List ServedRequest)) (place : ℕ) (row : ServedRequest) (rest : List ServedRequest) → t < row.served → Each (AreServedBetween 0 until) lists → Begins lists place row rest → served_at lists t ≡ []
 earlier t until [] place row rest l h b = refl
 earlier t until (rows ∷ lists) zero row rest l h b =
     let own : From row.served rows = subst (From row.served) (sym b.is) (omega arith) in
@@ -71,7 +71,7 @@ other t (rows ∷ lists) zero row rest n l e = ap (λ x. x ++ served_at lists t)
 other t (rows ∷ lists) (suc place) row rest n l e = ap (λ x. at t rows ++ x) (other t lists place row rest n (omega (arith, l)) e)
 
 -- in its own it is the first
-own : (until : ℕ) (lists : List (List ServedRequest)) (place : ℕ) (row : ServedRequest) (rest : List ServedRequest) → Each (AreServed 0 until) lists → Begins lists place row rest
+own : (until : ℕ) (lists : List (List ServedRequest)) (place : ℕ) (row : ServedRequest) (rest : List ServedRequest) → Each (AreServedBetween 0 until) lists → Begins lists place row rest
     → served_at lists row.served ≡ row ∷ served_at (set lists place rest) row.served
 own until [] place row rest h b = absurd (omega (arith, b.within))
 own until (rows ∷ lists) zero row rest h b = ap (λ x. x ++ served_at lists row.served) (ap (at row.served) b.is ∙ cond-true _ _ _ (eq-eqb row.served row.served refl))
@@ -81,12 +81,12 @@ own until (rows ∷ lists) (suc place) row rest h b =
     ∙ ap (λ x. row ∷ (x ++ served_at (set lists place rest) row.served)) (sym none)
 
 -- the table begins with it, and goes on with what is left
-first-row : (cycles : ℕ) (lists : List (List ServedRequest)) (place : ℕ) (row : ServedRequest) (rest : List ServedRequest) → All (AreServed 0 cycles) lists → Begins lists place row rest
+first-row : (cycles : ℕ) (lists : List (List ServedRequest)) (place : ℕ) (row : ServedRequest) (rest : List ServedRequest) → All (AreServedBetween 0 cycles) lists → Begins lists place row rest
     → by_cycle cycles lists ≡ row ∷ by_cycle cycles (set lists place rest)
 unfolding by_cycle
 first-row cycles lists place row rest h b =
-    let each : Each (AreServed 0 cycles) lists = recursion_from_All (AreServed 0 cycles) lists h in
-    let own-list : AreServed 0 cycles (row ∷ rest) = subst (AreServed 0 cycles) b.is (h place [] b.within) in
+    let each : Each (AreServedBetween 0 cycles) lists = recursion_from_All (AreServedBetween 0 cycles) lists h in
+    let own-list : AreServedBetween 0 cycles (row ∷ rest) = subst (AreServedBetween 0 cycles) b.is (h place [] b.within) in
     let change = λ (t : ℕ) (n : row.served ≡ t → ⊥). other t lists place row rest n b.within b.is in
     let begins_later = λ (t : ℕ) (l : t < row.served). earlier t cycles lists place row rest l each b in
     let within : row.served < cycles = own-list.1 in
@@ -95,11 +95,11 @@ first-row cycles lists place row rest h b =
     0 cycles (omega arith) (omega (arith, within))
 
 -- one list alone is its own table
-pub own-table : (cycles : ℕ) (rows : List ServedRequest) → AreServed 0 cycles rows → by_cycle cycles (rows ∷ []) ≡ rows
+pub own-table : (cycles : ℕ) (rows : List ServedRequest) → AreServedBetween 0 cycles rows → by_cycle cycles (rows ∷ []) ≡ rows
 unfolding by_cycle
 own-table cycles [] h = flat-none (served_at ([] ∷ [])) 0 cycles (λ t l. refl)
 own-table cycles (row ∷ rows) h =
-    let alone : All (AreServed 0 cycles) ((row ∷ rows) ∷ []) = All-cons (AreServed 0 cycles) (row ∷ rows) [] h (All-nil (AreServed 0 cycles)) in
+    let alone : All (AreServedBetween 0 cycles) ((row ∷ rows) ∷ []) = All-cons (AreServedBetween 0 cycles) (row ∷ rows) [] h (All-nil (AreServedBetween 0 cycles)) in
     let first : Begins ((row ∷ rows) ∷ []) 0 row rows = record {
       within = omega arith;
       is = refl;
@@ -122,7 +122,7 @@ begins lists place row rest n e =
     }
 
 -- the table is the request that is taken, and what is left
-pub times-next : (s : Config) (cycles : ℕ) (lists : List (List ServedRequest)) (place : ℕ) (old : List ServedRequest) (row : ServedRequest) → All (AreServed 0 cycles) lists → IsNext lists place
+pub times-next : (s : Config) (cycles : ℕ) (lists : List (List ServedRequest)) (place : ℕ) (old : List ServedRequest) (row : ServedRequest) → All (AreServedBetween 0 cycles) lists → IsNext lists place
     → old ≡ get_or lists place old → Some row ≡ slice_get old 0 → times_by_cycle s cycles lists ≡ times_of s cycles row ∷ times_by_cycle s cycles (set lists place (drop 1 old))
 times-next s cycles lists place [] row h n o t = absurd (cc)
 times-next s cycles lists place (first ∷ rest) row h n o t =
@@ -141,6 +141,6 @@ no-row s cycles lists h =
     ap (map (times_of s cycles)) (flat-none (served_at lists) 0 cycles (λ t l. all-empty t lists (recursion_from_All (λ (rows : List ServedRequest). rows ≡ []) lists h)))
 
 -- what is left is in order
-pub all-served-rest : (cycles : ℕ) (lists : List (List ServedRequest)) (place : ℕ) (old : List ServedRequest) → All (AreServed 0 cycles) lists → place < length lists → old ≡ get_or lists place old
-    → All (AreServed 0 cycles) (set lists place (drop 1 old))
-all-served-rest cycles lists place old h l o = All-set (AreServed 0 cycles) lists place (drop 1 old) (served-rest 0 cycles old (subst (AreServed 0 cycles) (sym o) (h place old l))) h
+pub all-served-rest : (cycles : ℕ) (lists : List (List ServedRequest)) (place : ℕ) (old : List ServedRequest) → All (AreServedBetween 0 cycles) lists → place < length lists → old ≡ get_or lists place old
+    → All (AreServedBetween 0 cycles) (set lists place (drop 1 old))
+all-served-rest cycles lists place old h l o = All-set (AreServedBetween 0 cycles) lists place (drop 1 old) (served-rest 0 cycles old (subst (AreServedBetween 0 cycles) (sym o) (h place old l))) h

@@ -1,8 +1,8 @@
 -- Which list a table of several lists goes on with.
 --     first_cycle rows      the cycle in which the first of the requests was served
---     IsNextOf lists count place cycle      of the first `count` lists, the one at this place begins in this cycle, and none earlier
---     IsNextAmong lists count next      the same, where none of them may have a request
---     IsEarlier found place cycle result      of the list that was found and the one at a place, the one that goes on earlier
+--     IsNextOf lists count place cycle      of the first `count` lists, the one at a place begins first, in a cycle
+--     IsNextAmong lists count next      the place and cycle of the one that begins first, or none where all are empty
+--     IsEarlier found place cycle result      of the list that was found and the one at a place, the earlier one
 --     IsNext lists place      the one at this place goes on earliest of all lists
 use Rattle.std.specs.Prelude.{◌≡◌, ℕ, ◌+◌, ◌<◌, ◌≤◌, List, [], ◌∷◌, length, slice_index_or, Option, Some, None, IfSome}
 use Rattle.request_table.specs.declared.served_requests.ServedRequest.{ServedRequest}

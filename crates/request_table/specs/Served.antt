@@ -1,6 +1,6 @@
 -- The requests that a channel served, one for each RD and WR of its commands.
 --     served_by arrivals hit channel cycle command      the request that a command serves, if it is a column command
---     served_in arrivals history i      the same of one of these commands
+--     served_in arrivals history i      the same for one of the commands of a history, with its channel and cycle
 --     served_requests arrivals history      those of all of them, in their order
 use Rattle.std.specs.Prelude.{ℕ, Bool, List, filter_map, Option, Some, None}
 use Rattle.sim_base.specs.Counts.{is_hit}
@@ -15,7 +15,15 @@ use Rattle.request_table.specs.declared.served_requests.ServedRequest.{ServedReq
 -- the request of an entry that is served in a cycle; `arrivals` tells when the request of an entry came to its channel
 abbrev pub served_of : (Source → ℕ) → Bool → ℕ → ℕ → Access → Source → ServedRequest
 served_of arrivals hit channel cycle access source =
-    record { entry = source.entry; arrived = arrivals source; served = cycle; channel = channel; core = source.core; access = access; hit = hit }
+    record {
+      entry = source.entry;
+      arrived = arrivals source;
+      served = cycle;
+      channel = channel;
+      core = source.core;
+      access = access;
+      hit = hit;
+    }
 
 -- the request that a command serves, if it is a column command
 abbrev pub served_by : (Source → ℕ) → Bool → ℕ → ℕ → Command → Option ServedRequest

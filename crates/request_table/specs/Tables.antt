@@ -1,5 +1,5 @@
 -- Served requests of several lists as one table, cycle by cycle.
---     AreServed from until rows      requests were served by cycle, from one on and before another
+--     AreServedBetween from until rows      requests were served by cycle, from one on and before another
 --     IsInOrder rows      requests were served by cycle
 --     served_at lists cycle      the requests that were served in a cycle, by list
 --     by_cycle cycles lists      the requests of some lists by cycle, and those of a cycle by their list
@@ -15,14 +15,14 @@ use Rattle.request_table.specs.Requests.{replied_in}
 use Rattle.request_table.specs.declared.times.RequestTimes.{RequestTimes}
 
 -- requests were served by cycle, from one on and before another
-abbrev pub AreServed : ℕ → ℕ → List ServedRequest → Type 0
-AreServed from until [] = Unit {0}
-AreServed from until (row ∷ rows) = (from ≤ row.served) × (row.served < until) × AreServed row.served until rows
+abbrev pub AreServedBetween : ℕ → ℕ → List ServedRequest → Type 0
+AreServedBetween from until [] = Unit {0}
+AreServedBetween from until (row ∷ rows) = (from ≤ row.served) × (row.served < until) × AreServedBetween row.served until rows
 
 -- requests were served by cycle
 pub record IsInOrder (rows : List ServedRequest) : Type 0 where
   pub until : ℕ
-  pub served : AreServed 0 until rows
+  pub served : AreServedBetween 0 until rows
 
 -- the requests that were served in a cycle, by list
 abbrev pub served_at : List (List ServedRequest) → ℕ → List ServedRequest

@@ -1,7 +1,7 @@
 //! The served requests of several lists as one table.
 
 ghost use Rattle.std.specs.Prelude.{◌≡◌, [], ◌∷◌, None, All, IfOk, IfSome, MatchOption};
-ghost use Rattle.request_table.specs.Tables.{AreServed, times_by_cycle};
+ghost use Rattle.request_table.specs.Tables.{AreServedBetween, times_by_cycle};
 ghost use Rattle.request_table.specs.Lefts.{IsNext, IsEarlier};
 
 use crate::left::{Left, ServedList};
@@ -23,14 +23,14 @@ pub struct RequestTable {
 
 impl Model for RequestTable {
     ghost use Rattle.std.specs.Prelude.{List, All};
-    ghost use Rattle.request_table.specs.Tables.{AreServed, times_by_cycle};
+    ghost use Rattle.request_table.specs.Tables.{AreServedBetween, times_by_cycle};
     ghost use Rattle.request_table.specs.declared.times.RequestTimes.{RequestTimes as Row};
 
     ghost Value = { List Row };
 
     ghost view = { λ t. times_by_cycle t.config t.cycles t.lists.items };
 
-    ghost invariant = { λ t. All (AreServed 0 t.cycles) t.lists.items };
+    ghost invariant = { λ t. All (AreServedBetween 0 t.cycles) t.lists.items };
 }
 
 /// What is left to be read of a table, from its first request on.
@@ -43,14 +43,14 @@ pub struct Rows<'a> {
 
 impl<'a> Model for Rows<'a> {
     ghost use Rattle.std.specs.Prelude.{List, All};
-    ghost use Rattle.request_table.specs.Tables.{AreServed, times_by_cycle};
+    ghost use Rattle.request_table.specs.Tables.{AreServedBetween, times_by_cycle};
     ghost use Rattle.request_table.specs.declared.times.RequestTimes.{RequestTimes as Row};
 
     ghost Value = { List Row };
 
     ghost view = { λ r. times_by_cycle r.config.now r.cycles r.lefts.items };
 
-    ghost invariant = { λ r. All (AreServed 0 r.cycles) r.lefts.items };
+    ghost invariant = { λ r. All (AreServedBetween 0 r.cycles) r.lefts.items };
 }
 
 /// A list at its place, and the cycle in which it goes on.
@@ -105,7 +105,7 @@ fn lefts_of(alloc: Global, lists: &[ServedList]) -> Result<Vec<Left<'_>>, AllocE
 impl<'a> Rows<'a> {
     /// What is left of lists of a run of so many cycles, to be read.
     pub(crate) fn of(lefts: Vec<Left<'a>>, config: &'a Config, cycles: Cycle) -> Self
-        requires { All (AreServed 0 cycles) lefts.items }
+        requires { All (AreServedBetween 0 cycles) lefts.items }
         ensures { result ≡ times_by_cycle config.now cycles lefts.entry.items }
     {
         Rows {
@@ -145,7 +145,7 @@ impl RequestTable {
         cycles: Cycle,
         lists: Vec<ServedList>,
     ) -> Result<Self, AllocError>
-        requires { All (AreServed 0 cycles) lists.items }
+        requires { All (AreServedBetween 0 cycles) lists.items }
         ensures { IfOk result (λ table. table ≡ times_by_cycle config.now cycles lists.items) }
     {
         Ok(RequestTable {

@@ -7,7 +7,7 @@ use Rattle.sim_base.specs.declared.config.Config.{Config}
 use Rattle.sim_base.specs.declared.command.IssuedCommand.{IssuedCommand}
 use Rattle.sim_base.specs.declared.fault.Fault.{Fault}
 use Rattle.sim_base.specs.declared.fault.Fault.TheVariants.{CheckRow}
-use Rattle.sim_base.proofs.Lists.{cond-none}
+use Rattle.sim_base.proofs.Lists.{find-none, cond-none}
 use Rattle.rule_check.specs.Fields.{limits_of, is_header, row_in}
 use Rattle.rule_check.specs.Broken.{breaks, lowest_broken}
 use Rattle.rule_check.specs.Verdict.{verdict, verdict_after, decided_by_row, decided_by_rule, IsLegalTable}
@@ -23,12 +23,6 @@ none-found p a (suc n) e k l m =
       | inr apart ↦ none-found p (a + 1) n h.1 k (omega arith) (omega arith)
     ]
 
-found-none : (p : ℕ → Bool) (a n : ℕ) → ((k : ℕ) → a ≤ k → k < a + n → p k ≡ false) → find p (range_with_len a n) ≡ None
-found-none p a zero h = refl
-found-none p a (suc n) h =
-    ap (λ b. cond b (Some a) (find p (range_with_len (a + 1) n))) (h a (omega arith) (omega arith))
-    ∙ found-none p (a + 1) n (λ k l m. h k (omega arith) (omega arith))
-
 -- a row keeps every rule after these rows
 abbrev Keeps : Config → List IssuedCommand → IssuedCommand → Type 0
 Keeps s before row = (number : ℕ) → 1 ≤ number → number ≤ 21 → breaks s before row number ≡ false
@@ -39,7 +33,7 @@ none-keeps s before row e number a b = none-found (breaks s before row) 1 21 e n
 
 keeps-none : (s : Config) (before : List IssuedCommand) (row : IssuedCommand) → Keeps s before row → lowest_broken s before row ≡ None
 unfolding lowest_broken
-keeps-none s before row h = found-none (breaks s before row) 1 21 (λ k l m. h k l (omega arith))
+keeps-none s before row h = find-none (breaks s before row) 1 21 (λ k l m. h k l (omega arith))
 
 -- each of these rows keeps every rule after those before it
 abbrev KeepAll : Config → List IssuedCommand → List IssuedCommand → Type 0

@@ -15,7 +15,7 @@
 --     16      tFAW, four activate window
 --     17      tRFC, REF command period
 --     18      tREFI, average periodic refresh interval; how long a REF may be postponed is this project's
---     19, 20, 21      the data bus from one rank to another: READ to READ and WRITE to WRITE, READ to WRITE, WRITE to READ
+--     19, 20, 21      data bus between two ranks: READ to READ and WRITE to WRITE, READ to WRITE, WRITE to READ
 --
 --     breaks_order rows row      rule 1: rows ascend by cycle and then by channel
 --     breaks_distance t number history row      rules 3 to 15, 17 and 19 to 21: distances from earlier commands
@@ -73,8 +73,8 @@ is_overdue s history now rank =
 abbrev pub breaks_refresh : Config → List IssuedCommand → IssuedCommand → Bool
 breaks_refresh s history row = nat_lt 0 s.timing.n_refi && list_any (is_overdue s history row.cycle) (below s.ranks)
 
--- A row breaks a rule of its channel, after the rows of the channel before it: the state of banks (2), the four activate
--- window (16), the refresh interval (18), or a distance between two commands.
+-- A row breaks a rule of its channel, after the rows of the channel before it: the state of banks (2), the four
+-- activate window (16), the refresh interval (18), or a distance between two commands.
 abbrev pub breaks_in_channel : Config → List IssuedCommand → IssuedCommand → ℕ → Bool
 breaks_in_channel s history row number =
     if number == 2 then not (finds_its_banks s history row.command)

@@ -5,7 +5,7 @@
 --     limits_of s      the limits of a configuration
 --     command_in limits fields      the command that a record writes, if its fields are those of one
 --     row_in limits fields      the row that a record writes, if it is well-formed
---     BankFits limits bank, CommandFits limits command, RowFits limits row      their numbers are below the limits
+--     BankFits limits bank, CommandFits limits command, RowFits limits row      their bank and channel are in range
 use Rattle.std.specs.Prelude.{ℕ, ◌<◌, IfSome, ◌+◌, ◌==◌, nat_lt, Bool, true, ◌&&◌, List, length, [], codes, Option, Some, None, unwrap_or, if◌then◌else◌}
 use Rattle.std.specs.Str.{bytes_eq}
 use Rattle.csv.specs.Records.{field_at}
@@ -138,7 +138,7 @@ rd_in limits fields = do
   source ← source_in limits fields
   Some (Rd bank row column source)
 
--- the fields of a WR, with a row and a column
+-- a WR names a bank, a row, a column and an entry
 unfoldable pub wr_in : Limits → List (List ℕ) → Option Command
 wr_in limits fields = do
   bank ← bank_in limits fields
@@ -160,7 +160,7 @@ pre_in limits fields = do
   if is_empty (row_text limits.ranks fields)
       && is_empty (column_text limits.ranks fields) then Some (Pre bank source) else None
 
--- no field but that of the rank is filled
+-- the fields of group, bank, row, column, core and entry are empty
 unfoldable pub has_no_operands : ℕ → List (List ℕ) → Bool
 has_no_operands ranks fields =
     is_empty (group_text ranks fields) && is_empty (bank_text ranks fields) && is_empty (row_text ranks fields)
@@ -209,7 +209,7 @@ row_from limits fields = do
 unfoldable pub row_in : Limits → List (List ℕ) → Option IssuedCommand
 row_in limits fields = if length fields == column_count limits.ranks then row_from limits fields else None
 
--- the numbers of a row are below the limits, and its cycle is below the limit of numbers
+-- the channel, the rank and the bank of a row are below the limits, and its cycle is below the limit of numbers
 pub record RowFits (limits : Limits) (row : IssuedCommand) : Type 0 where
   pub cycle_in_range : row.cycle < number_limit
   pub channel_in_range : row.channel < limits.channels

@@ -19,7 +19,8 @@ Decides s past number fields answer =
 
 -- A record with this number, after these rows, writes a row that keeps every rule, and a `Past` keeps it: the verdict
 -- is the one on what comes after it.
-pub record IsKeptRow (past : Past) (s : Config) (rows : List IssuedCommand) (number : ℕ) (fields : List (List ℕ)) : Type 0 where
+pub record IsKeptRow (past : Past) (s : Config) (rows : List IssuedCommand) (number : ℕ) (fields : List (List ℕ))
+    : Type 0 where
   pub row : IssuedCommand
   pub kept : IsPast past s (rows ++ row ∷ [])
   pub goes_on : (others : List (List (List ℕ)))

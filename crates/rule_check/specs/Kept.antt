@@ -80,7 +80,12 @@ no_window = record { first = 0; second = 0; third = 0; fourth = 0 }
 -- one more ACT, given the cycle from which on it no longer counts
 abbrev pub window_after : ℕ → ActWindow → ActWindow
 window_after end w =
-    record { first = max w.first end; second = max w.second (min w.first end); third = max w.third (min w.second end); fourth = max w.fourth (min w.third end) }
+    record {
+      first = max w.first end;
+      second = max w.second (min w.first end);
+      third = max w.third (min w.second end);
+      fourth = max w.fourth (min w.third end);
+    }
 
 -- an ACT of this rank
 abbrev pub activates : ℕ → Command → Bool
@@ -124,12 +129,18 @@ bank_past history b = record { latest = latest_where (lies InBank b.rank (Some b
 -- what one more row makes of it
 abbrev pub bank_after : BankId → ℕ → Command → Bank → Bank
 bank_after b cycle command state =
-    record { latest = noted_where (lies InBank b.rank (Some b) command) (kind_of command) cycle state.latest; row = row_after b state.row command }
+    record {
+      latest = noted_where (lies InBank b.rank (Some b) command) (kind_of command) cycle state.latest;
+      row = row_after b state.row command;
+    }
 
 -- what the rows of a channel make of a group
 abbrev pub group_past : List IssuedCommand → ℕ → ℕ → Group
 group_past history rank group =
-    record { within = latest_where (lies InGroup rank (any_bank rank group)) history; across = latest_where (lies AcrossGroups rank (any_bank rank group)) history }
+    record {
+      within = latest_where (lies InGroup rank (any_bank rank group)) history;
+      across = latest_where (lies AcrossGroups rank (any_bank rank group)) history;
+    }
 
 -- what one more row makes of it
 abbrev pub group_after : ℕ → ℕ → ℕ → Command → Group → Group
@@ -249,7 +260,8 @@ abbrev pub kept_row : List Bank → BankId → Option ℕ
 kept_row banks bank = option_and_then (λ (state : Bank). state.row) (slice_get banks (number_of_bank bank))
 
 abbrev pub has_kept_open_in_group : List Bank → ℕ → ℕ → Bool
-has_kept_open_in_group banks rank group = list_any (λ bank. is_some (kept_row banks (record { rank = rank; group = group; bank = bank }))) (below 4)
+has_kept_open_in_group banks rank group =
+    list_any (λ bank. is_some (kept_row banks (record { rank = rank; group = group; bank = bank }))) (below 4)
 
 -- whether a bank is open in a rank
 unfoldable pub has_kept_open : Config → List Bank → ℕ → Bool
@@ -264,8 +276,8 @@ kept_finds_banks s banks (Ref rank) = not (has_kept_open s banks rank)
 kept_finds_banks s banks (Pre bank source) = true
 kept_finds_banks s banks (Prea rank) = true
 
--- A row breaks a rule of its channel, by what is kept: the state of banks (2), the four activate window (16), the refresh
--- interval (18), or a distance between two commands.
+-- A row breaks a rule of its channel, by what is kept: the state of banks (2), the four activate window (16), the
+-- refresh interval (18), or a distance between two commands.
 unfoldable pub kept_breaks : Config → List Rule → Channel → IssuedCommand → ℕ → Bool
 kept_breaks s table c row number =
     if number == 2 then not (kept_finds_banks s c.banks.items row.command)

@@ -1,7 +1,6 @@
 -- The verdict on a table of commands.
 --     records_of table      the records of its text
 --     verdict s records      the verdict on a table with these records
---     IsFaultOf told fault      a fault is that of this verdict, or memory was refused
 --     IsCheckFault fault      why a table may be refused
 --     IsLegalTable s table      it has the header, no malformed record, and each row keeps every rule
 use Rattle.std.specs.Prelude.{◌≡◌, ℕ, ◌+◌, ◌<◌, ◌≤◌, false, IsTrue, length, take, map, slice_index_or, List, [], ◌∷◌, ◌++◌, ⊤, Option, Some, None, Result, Ok, Err, if◌then◌else◌}

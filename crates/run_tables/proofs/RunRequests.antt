@@ -1,6 +1,6 @@
 -- The requests of a run are in their ranges and in order.
 use Rattle.std.proofs.Common.{◌≡◌, ◌+◌, ◌*◌, ◌<◌, ◌≤◌, ◌^◌, ◌&&◌, ◌==◌, ◌∙◌, ℕ, zero, suc, true, IsTrue, nat_lt, ltb, List, [], ◌∷◌, ◌++◌, length, get_or, take, All, Option, Some, None, refl, sym, ap, subst, arith, add-zero, inl, inr}
-use Rattle.std.specs.Prelude.{Contains, filter_map}
+use Rattle.std.specs.Prelude.{filter_map}
 use Rattle.std.specs.Option.{IfSome}
 use Rattle.std.specs.List.{AllByRecursion as Each, AllPairs, cons_option}
 use Rattle.std.proofs.lemmas.Bool.{cases_Bool, cond_both, and_parts, eqb-true, ltb-true}
@@ -24,7 +24,6 @@ use Rattle.sim_base.proofs.Each.{Each-append, Each-filter_map}
 use Rattle.sim_base.proofs.Ordered.{Each-weaker}
 use Rattle.sim_base.proofs.Spans.{length_run}
 use Rattle.laws.specs.Commands.{channel_steps_of}
-use Rattle.laws.proofs.Chosen.{IfSome-weaker}
 use Rattle.laws.proofs.Legal.{channel_steps_of-at}
 use Rattle.laws.proofs.Named.{commands_name_the_queue}
 use Rattle.laws.proofs.Receivers.{Each-filter_passes}
@@ -36,6 +35,7 @@ use Rattle.laws.proofs.Dated.{requests_arrive_as_issued}
 use Rattle.run_tables.specs.TableLaws.Written.{SourceIsOf, CommandIsOf, RowIsOf}
 use Rattle.run_tables.proofs.TableLaws.InRange.{commands_are_in_range}
 use Rattle.run_tables.specs.Requests.{IsReplyTo, RequestFits, turn, IsInOrder}
+use Rattle.std.proofs.lemmas.Option.{IfSome_then}
 
 -- ---- each row of the table of commands is what its channel does in its cycle
 
@@ -93,9 +93,8 @@ command-arrived s traces n i h =
     let queue = queue_in i.channel (channel_steps_of s traces n i.channel) (inbox s traces history (Channel i.channel)) i.cycle in
     let there = λ (r : Request). arrival_of s history i.channel (source_of r) ≤ i.cycle in
     let all : All there queue = All-from_recursion there queue (queue-arrived s traces n i.channel i.cycle h.channel) in
-    IfSome-weaker (λ (source : Source). (r : Request) × Contains queue r × (source ≡ source_of r)) (λ source. arrival_of s history i.channel source ≤ i.cycle)
+    IfSome_then (source_in i.command) (commands_name_the_queue s traces n i.channel i.cycle i.command h.channel h.cycle h.command)
     (λ source named. subst (λ x. arrival_of s history i.channel x ≤ i.cycle) (sym named.2) (All-contains there queue named.0 all named.1))
-    (source_in i.command) (commands_name_the_queue s traces n i.channel i.cycle i.command h.channel h.cycle h.command)
 
 -- ---- each request is in its ranges
 
@@ -189,7 +188,7 @@ made-ascend {Y = Y} f p q e (x ∷ xs) h = first (f x) (e x) (made-ascend f p q 
         (recursion_from_All (λ z. IfSome (f z) (λ w. q y < q w)) xs
         (λ k d l.
         let later : p x < p (get_or xs k d) = h 0 (suc k) d (omega arith) (omega arith) in
-        IfSome-weaker (λ w. q w ≡ p (get_or xs k d)) (λ w. q y < q w) (λ w same. omega (arith, g, same, later)) (f (get_or xs k d)) (e (get_or xs k d))))))
+        IfSome_then (f (get_or xs k d)) (e (get_or xs k d)) (λ w same. omega (arith, g, same, later))))))
         rest
 
 pub requests-ordered : (s : Config) (traces : List (List Entry)) (n : ℕ) → IsInOrder (requests_of s (run s traces n))

@@ -17,11 +17,13 @@ use Rattle.rule_check.specs.declared.limits.Limits.{Limits}
 
 -- the greatest ranges of a configuration's numbers
 abbrev pub with_rank : Limits
-with_rank = record { channels = 16; ranks = 4; groups = 4; rows = 262144; columns = 1024; cores = 256; has_rank = omega arith }
+with_rank =
+    record { channels = 16; ranks = 4; groups = 4; rows = 262144; columns = 1024; cores = 256; has_rank = omega arith }
 
 -- the greatest ranges of a configuration with one rank
 abbrev pub without_rank : Limits
-without_rank = record { channels = 16; ranks = 1; groups = 4; rows = 262144; columns = 1024; cores = 256; has_rank = omega arith }
+without_rank =
+    record { channels = 16; ranks = 1; groups = 4; rows = 262144; columns = 1024; cores = 256; has_rank = omega arith }
 
 -- what the numbers of the table with this header are below, if it is one
 unfoldable pub limits_told : List (List ℕ) → Option Limits

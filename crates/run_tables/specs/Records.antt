@@ -38,7 +38,8 @@ IsFaultAt row Wrong fault = fault ≢ Memory → (fault ≡ CheckRow row) × Wro
 
 -- The first record at fault, counted from 0: there is a table that begins with the records before it, and none that
 -- goes on as they do, with this record, or, where it is missing, with the end.
-pub record IsFirstWrong (IsTable : List (List (List ℕ)) → Type 0) (records : List (List (List ℕ))) (row : ℕ) : Type 0 where
+pub record IsFirstWrong (IsTable : List (List (List ℕ)) → Type 0) (records : List (List (List ℕ))) (row : ℕ)
+    : Type 0 where
   pub table : List (List (List ℕ))
   pub is_table : IsTable table
   pub agrees : take row table ≡ take row records

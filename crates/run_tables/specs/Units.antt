@@ -3,7 +3,7 @@
 --     numbers_at table row scope id counters      the numbers of counters, one row after the other
 --     core_at, channel_at table row id      the counts of a unit, from a row on, or the fault of a wrong row
 --     AreRead unit_at size row id units end      from a row on, these units are read, one after the other
---     CoresAre table cores, CoresStop table fault      the cores are read, or one of them is wrong
+--     CoresAre table cores row, CoresStop table fault      the cores are read, or one of them is wrong
 --     ChannelsAre table row channels, ChannelsStop table row fault      the same of the channels
 --     IsRead table stats      the whole table is read
 use Rattle.std.specs.Prelude.{◌≡◌, ℕ, ◌+◌, ◌*◌, ◌≤◌, ◌==◌, nat_lt, Bool, true, false, ◌||◌, List, [], ◌∷◌, length, slice_get, codes, Option, Some, None, Result, Ok, Err, if◌then◌else◌}
@@ -48,7 +48,9 @@ core_at table row id = numbers_at table row (codes "core") id core_counters >>= 
 -- the count of cycles in which a channel drained its writes, if the record is that
 unfoldable pub draining_in : ℕ → ℕ → Option (List (List ℕ)) → Result (Option ℕ) Fault
 draining_in row id line =
-    if has_text 2 (codes "draining") line then count_in row (codes "channel") id (codes "draining") line >>= (λ count. Ok (Some count)) else Ok None
+    if has_text 2 (codes "draining") line
+    then count_in row (codes "channel") id (codes "draining") line >>= (λ count. Ok (Some count))
+    else Ok None
 
 abbrev pub draining_at : List (List (List ℕ)) → ℕ → ℕ → Result (Option ℕ) Fault
 draining_at table row id = draining_in row id (slice_get table row)
@@ -78,7 +80,7 @@ AreRead unit_at size row id [] end = end ≡ row
 AreRead unit_at size row id (unit ∷ units) end =
     (unit_at row id ≡ Ok unit) × AreRead unit_at size (row + size unit) (id + 1) units end
 
--- a core must follow, after this many: there is at least one
+-- a core must follow, after this many: there is at least one, and another where the row is one of a core
 abbrev pub has_core : ℕ → List (List (List ℕ)) → ℕ → Bool
 has_core count table row = (count == 0) || has_text 0 (codes "core") (slice_get table row)
 

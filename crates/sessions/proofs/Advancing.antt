@@ -16,15 +16,15 @@ use Rattle.sim_base.specs.declared.message.Request.{Request}
 use Rattle.statistics.proofs.ChannelCounts.{AgreeUpTo-later}
 use Rattle.channel_step.proofs.Fits.{split-differ}
 use Rattle.channel_step.specs.Channels.{StandsFor}
-use Rattle.channel_step.specs.Fit.{IsUnnamed, ComeByAge, IsFit}
-use Rattle.channel_step.specs.Past.{requests_of, CarriesRequest, IsOther, Differ}
+use Rattle.channel_step.specs.Fit.{NoneIssuedFor, ComeByAge, IsFit}
+use Rattle.channel_step.specs.Past.{carried_requests, CarriesRequest, IsOther, Differ}
 use Rattle.channel_step.specs.Runs.{CanRun, IsDone}
 use Rattle.channel_step.specs.declared.channel.Channel.{Channel}
 use Rattle.channel_step.proofs.Requests.{carries-stamped, requests-append, requests-arrived}
 use Rattle.channel_step.proofs.Spans.{length-channel_run, channel_run-more, channel_run-same}
 use Rattle.sessions.specs.Keeps.{steps_of, waiting, Keeps}
 use Rattle.sessions.proofs.Lists.{age-first, age-last}
-use Rattle.sessions.proofs.Naming.{run-unnamed}
+use Rattle.sessions.proofs.Naming.{run-none_issued}
 use Rattle.sessions.proofs.Sending.{steps-late}
 use Rattle.sessions.proofs.Waiting.{waits-left, room-left, queued-late}
 
@@ -68,10 +68,10 @@ fit-of c s channel now firsts sent coming inbox rest until k =
     let steps = steps_of s channel sent now in
     let past = k.h.stands.recalls.past in
     let carries = inbox-carries c s channel now firsts sent coming inbox rest until k in
-    let differ : Differ (requests_of (mail ++ inbox) ++ requests_of rest) =
-    subst Differ (requests-append (mail ++ inbox) rest) (subst (λ x. Differ (requests_of x)) (all-sent c s channel now firsts sent coming inbox rest until k) k.h.differ) in
-    let first : Differ (requests_of (mail ++ inbox)) = (split-differ (requests_of (mail ++ inbox)) (requests_of rest) differ).0 in
-    let across : Each (λ (r : Request). Each (IsOther r) (requests_of inbox)) (requests_of mail) = (split-differ (requests_of mail) (requests_of inbox) (subst Differ (requests-append mail inbox) first)).1 in
+    let differ : Differ (carried_requests (mail ++ inbox) ++ carried_requests rest) =
+    subst Differ (requests-append (mail ++ inbox) rest) (subst (λ x. Differ (carried_requests x)) (all-sent c s channel now firsts sent coming inbox rest until k) k.h.differ) in
+    let first : Differ (carried_requests (mail ++ inbox)) = (split-differ (carried_requests (mail ++ inbox)) (carried_requests rest) differ).0 in
+    let across : Each (λ (r : Request). Each (IsOther r) (carried_requests inbox)) (carried_requests mail) = (split-differ (carried_requests mail) (carried_requests inbox) (subst Differ (requests-append mail inbox) first)).1 in
     let ran : steps ≡ steps_of s channel mail now =
     ap (λ x. steps_of s channel x now) k.h.sent_is ∙ steps-late s channel mail coming now (carries-stamped s channel mail past.requests) (carries-stamped s channel coming k.h.requests) k.h.late in
     record {
@@ -80,7 +80,7 @@ fit-of c s channel now firsts sent coming inbox rest until k =
       in_span = Each-both (λ (m : Message). now ≤ m.arrival) (λ (m : Message). m.arrival < until) inbox
           (Each-first (λ (m : Message). now ≤ m.arrival) inbox rest (subst (NotBefore now) k.cut.both k.h.late)) k.cut.early;
       differ = first;
-      unnamed = subst (λ x. Each (IsUnnamed (issued_commands channel x)) (requests_of inbox)) (sym ran) (run-unnamed s channel mail now (requests_of inbox) across);
+      none_issued = subst (λ x. Each (NoneIssuedFor (issued_commands channel x)) (carried_requests inbox)) (sym ran) (run-none_issued s channel mail now (carried_requests inbox) across);
       room = λ n l.
           let at : length steps ≡ now = keeps-at s channel now sent in
           let left : queue_length channel (channel_run s channel steps (mail ++ inbox) n) (mail ++ inbox) (length steps + n) ≤ length (queued_requests (issued_commands channel steps) mail (length steps)) + length inbox =

@@ -15,24 +15,24 @@ use Rattle.sim_base.specs.declared.command.Source.{Source}
 use Rattle.sim_base.specs.declared.message.Message.{Message}
 use Rattle.sim_base.specs.declared.message.Request.{Request}
 use Rattle.statistics.proofs.ChannelCounts.{issued_commands-push}
-use Rattle.channel_step.specs.Fit.{is_of, is_named_by, IsUnnamed}
-use Rattle.channel_step.specs.Past.{requests_of, IsOther}
+use Rattle.channel_step.specs.Fit.{comes_from, is_issued_for, NoneIssuedFor}
+use Rattle.channel_step.specs.Past.{carried_requests, IsOther}
 use Rattle.channel_step.proofs.Chosen.{chosen-named}
 
 -- what is chosen stands in the name of a request, if it stands in the name of one
-choice-named : (P : Source → Type 0) (s : Config) (channel : ℕ) (steps : List (Option Command)) (mail : List Message) → Each (λ (r : Request). P (source_of r)) (requests_of mail)
+choice-named : (P : Source → Type 0) (s : Config) (channel : ℕ) (steps : List (Option Command)) (mail : List Message) → Each (λ (r : Request). P (source_of r)) (carried_requests mail)
     → IfSome (choice s channel steps mail) (λ c. IfSome (source_in c) P)
 unfolding choice queue_in queued_requests
 choice-named P s channel steps mail h =
     chosen-named P s (issued_commands channel steps) (length steps) (drains s channel steps mail (length steps)) (queue_in channel steps mail (length steps))
-    (Each-filter (λ (r : Request). P (source_of r)) (is_queued (issued_commands channel (take (length steps) steps)) (length steps + 1)) (requests_of mail) h)
+    (Each-filter (λ (r : Request). P (source_of r)) (is_queued (issued_commands channel (take (length steps) steps)) (length steps + 1)) (carried_requests mail) h)
 
 now-named : (P : Source → Type 0) (channel now : ℕ) (o : Option Command) → IfSome o (λ c. IfSome (source_in c) P) → Each (λ (i : IssuedCommand). IfSome (source_in i.command) P) (issued_now channel now o)
 now-named P channel now None h = tt
 now-named P channel now (Some c) h = (h, tt)
 
 -- so do all commands of a run from the first cycle on
-run-named : (P : Source → Type 0) (s : Config) (channel : ℕ) (mail : List Message) (n : ℕ) → Each (λ (r : Request). P (source_of r)) (requests_of mail)
+run-named : (P : Source → Type 0) (s : Config) (channel : ℕ) (mail : List Message) (n : ℕ) → Each (λ (r : Request). P (source_of r)) (carried_requests mail)
     → Each (λ (i : IssuedCommand). IfSome (source_in i.command) P) (issued_commands channel (channel_run s channel [] mail n))
 unfolding channel_run issued_commands
 run-named P s channel mail zero h = tt
@@ -43,16 +43,16 @@ run-named P s channel mail (suc n) h =
     (Each-append Q (issued_commands channel last) (issued_now channel (length last) (choice s channel last mail)) (run-named P s channel mail n h)
     (now-named P channel (length last) (choice s channel last mail) (choice-named P s channel last mail h)))
 
-unnamed-of : (q : Request) (o : Option Source) → IfSome o (λ source. is_source q source ≡ false) → is_of o q ≡ false
-unnamed-of q None h = refl
-unnamed-of q (Some source) h = h
+none_issued-of : (q : Request) (o : Option Source) → IfSome o (λ source. is_source q source ≡ false) → comes_from o q ≡ false
+none_issued-of q None h = refl
+none_issued-of q (Some source) h = h
 
 -- no command that is issued for some requests stands in the name of another one
-pub run-unnamed : (s : Config) (channel : ℕ) (mail : List Message) (n : ℕ) (later : List Request) → Each (λ (r : Request). Each (IsOther r) later) (requests_of mail)
-    → Each (IsUnnamed (issued_commands channel (channel_run s channel [] mail n))) later
-run-unnamed s channel mail n later h =
+pub run-none_issued : (s : Config) (channel : ℕ) (mail : List Message) (n : ℕ) (later : List Request) → Each (λ (r : Request). Each (IsOther r) later) (carried_requests mail)
+    → Each (NoneIssuedFor (issued_commands channel (channel_run s channel [] mail n))) later
+run-none_issued s channel mail n later h =
     let history = issued_commands channel (channel_run s channel [] mail n) in
-    Each-weaker (λ (q : Request). Each (λ (r : Request). IsOther r q) (requests_of mail)) (IsUnnamed history)
-    (λ q k. Each-weaker (λ (i : IssuedCommand). IfSome (source_in i.command) (λ (source : Source). is_source q source ≡ false)) (λ (i : IssuedCommand). is_named_by i.command q ≡ false)
-    (λ i l. unnamed-of q (source_in i.command) l) history (run-named (λ (source : Source). is_source q source ≡ false) s channel mail n k))
-    later (Each-turned IsOther (requests_of mail) later h)
+    Each-weaker (λ (q : Request). Each (λ (r : Request). IsOther r q) (carried_requests mail)) (NoneIssuedFor history)
+    (λ q k. Each-weaker (λ (i : IssuedCommand). IfSome (source_in i.command) (λ (source : Source). is_source q source ≡ false)) (λ (i : IssuedCommand). is_issued_for i.command q ≡ false)
+    (λ i l. none_issued-of q (source_in i.command) l) history (run-named (λ (source : Source). is_source q source ≡ false) s channel mail n k))
+    later (Each-turned IsOther (carried_requests mail) later h)

@@ -16,7 +16,7 @@ use Rattle.sim_base.specs.declared.message.Message.{Message}
 use Rattle.sim_base.specs.declared.message.Request.{Request}
 use Rattle.statistics.proofs.ChannelCounts.{AgreeUpTo-later}
 use Rattle.channel_step.specs.Channels.{StandsFor}
-use Rattle.channel_step.specs.Past.{requests_of, CarriesRequest, IsOther, Differ}
+use Rattle.channel_step.specs.Past.{carried_requests, CarriesRequest, IsOther, Differ}
 use Rattle.channel_step.specs.declared.channel.Channel.{Channel}
 use Rattle.channel_step.proofs.Requests.{carries-stamped, requests-append}
 use Rattle.channel_step.proofs.Spans.{channel_run-same}
@@ -93,10 +93,10 @@ keeps-sent c s channel now firsts sent coming r h may =
       by_age = age-more coming m h.by_age may.last;
       late = Each-append (λ (n : Message). now ≤ n.arrival) coming (m ∷ []) h.late late;
       differ = subst Differ (sym (requests-append sent (m ∷ [])))
-          (differ-append (requests_of sent) (request ∷ []) h.differ (tt, tt)
-          (Each-weaker (IsAsked firsts) (λ (q : Request). Each (IsOther q) (request ∷ [])) (λ q a. (other firsts q request a may.new, tt)) (requests_of sent) h.asked));
+          (differ-append (carried_requests sent) (request ∷ []) h.differ (tt, tt)
+          (Each-weaker (IsAsked firsts) (λ (q : Request). Each (IsOther q) (request ∷ [])) (λ q a. (other firsts q request a may.new, tt)) (carried_requests sent) h.asked));
       asked = subst (Each (IsAsked (firsts_with firsts r.core r.entry))) (sym (requests-append sent (m ∷ [])))
-          (Each-append (IsAsked (firsts_with firsts r.core r.entry)) (requests_of sent) (request ∷ []) (asked-more firsts r.core r.entry inside may.new (requests_of sent) h.asked)
+          (Each-append (IsAsked (firsts_with firsts r.core r.entry)) (carried_requests sent) (request ∷ []) (asked-more firsts r.core r.entry inside may.new (carried_requests sent) h.asked)
           (asked-now firsts request inside, tt));
       cores = length-set firsts r.core (r.entry + 1) ∙ h.cores;
       room = let left = may.credit in omega arith;

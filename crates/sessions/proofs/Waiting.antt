@@ -21,7 +21,7 @@ use Rattle.sim_base.specs.declared.command.IssuedCommand.{IssuedCommand}
 use Rattle.sim_base.specs.declared.message.Message.{Message}
 use Rattle.sim_base.specs.declared.message.Request.{Request}
 use Rattle.sim_base.proofs.Lists.{length-filter-le}
-use Rattle.channel_step.specs.Past.{requests_of}
+use Rattle.channel_step.specs.Past.{carried_requests}
 use Rattle.channel_step.proofs.Requests.{requests-append, ArrivedBefore}
 use Rattle.channel_step.proofs.Spans.{length-channel_run, issued-after}
 use Rattle.channel_step.proofs.Waits.{requests-few}
@@ -59,7 +59,7 @@ waited history more until later r l h =
     still false b h = refl
 
 -- no more wait later than waited and came
-pub waits-left : (s : Config) (channel : ℕ) (steps : List (Option Command)) (mail inbox : List Message) (n later : ℕ) → Each (ArrivedBefore (length steps)) (requests_of mail)
+pub waits-left : (s : Config) (channel : ℕ) (steps : List (Option Command)) (mail inbox : List Message) (n later : ℕ) → Each (ArrivedBefore (length steps)) (carried_requests mail)
     → length (queued_requests (issued_commands channel (channel_run s channel steps (mail ++ inbox) n)) (mail ++ inbox) later)
     ≤ length (queued_requests (issued_commands channel steps) mail (length steps)) + length inbox
 unfolding queued_requests
@@ -69,18 +69,18 @@ waits-left s channel steps mail inbox n later h =
     let history = issued_commands channel steps in
     let longer = history ++ more.0 in
     let p = is_queued longer later in
-    let parts : filter (is_queued (issued_commands channel (channel_run s channel steps all n)) later) (requests_of all) ≡ filter p (requests_of mail) ++ filter p (requests_of inbox) =
-    ap₂ (λ x rs. filter (is_queued x later) rs) more.1 (requests-append mail inbox) ∙ filter-append p (requests_of mail) (requests_of inbox) in
-    let old : length (filter p (requests_of mail)) ≤ length (filter (is_queued history (length steps)) (requests_of mail)) =
-    filter-fewer p (is_queued history (length steps)) (requests_of mail)
-    (Each-weaker (ArrivedBefore (length steps)) (λ (r : Request). p r ≡ true → is_queued history (length steps) r ≡ true) (λ r l. waited history more.0 (length steps) later r l) (requests_of mail) h) in
-    let new : length (filter p (requests_of inbox)) ≤ length inbox = let a = length-filter-le p (requests_of inbox) in let b = requests-few inbox in omega arith in
-    let sum : length (filter (is_queued (issued_commands channel (channel_run s channel steps all n)) later) (requests_of all)) ≡ length (filter p (requests_of mail)) + length (filter p (requests_of inbox)) =
-    ap length parts ∙ length-append (filter p (requests_of mail)) (filter p (requests_of inbox)) in
+    let parts : filter (is_queued (issued_commands channel (channel_run s channel steps all n)) later) (carried_requests all) ≡ filter p (carried_requests mail) ++ filter p (carried_requests inbox) =
+    ap₂ (λ x rs. filter (is_queued x later) rs) more.1 (requests-append mail inbox) ∙ filter-append p (carried_requests mail) (carried_requests inbox) in
+    let old : length (filter p (carried_requests mail)) ≤ length (filter (is_queued history (length steps)) (carried_requests mail)) =
+    filter-fewer p (is_queued history (length steps)) (carried_requests mail)
+    (Each-weaker (ArrivedBefore (length steps)) (λ (r : Request). p r ≡ true → is_queued history (length steps) r ≡ true) (λ r l. waited history more.0 (length steps) later r l) (carried_requests mail) h) in
+    let new : length (filter p (carried_requests inbox)) ≤ length inbox = let a = length-filter-le p (carried_requests inbox) in let b = requests-few inbox in omega arith in
+    let sum : length (filter (is_queued (issued_commands channel (channel_run s channel steps all n)) later) (carried_requests all)) ≡ length (filter p (carried_requests mail)) + length (filter p (carried_requests inbox)) =
+    ap length parts ∙ length-append (filter p (carried_requests mail)) (filter p (carried_requests inbox)) in
     omega arith
 
 -- so the queue is never longer
-pub room-left : (s : Config) (channel : ℕ) (steps : List (Option Command)) (mail inbox : List Message) (n : ℕ) → Each (ArrivedBefore (length steps)) (requests_of mail)
+pub room-left : (s : Config) (channel : ℕ) (steps : List (Option Command)) (mail inbox : List Message) (n : ℕ) → Each (ArrivedBefore (length steps)) (carried_requests mail)
     → queue_length channel (channel_run s channel steps (mail ++ inbox) n) (mail ++ inbox) (length steps + n) ≤ length (queued_requests (issued_commands channel steps) mail (length steps)) + length inbox
 unfolding queue_length queue_in
 room-left s channel steps mail inbox n h =
@@ -93,14 +93,14 @@ room-left s channel steps mail inbox n h =
     let left = waits-left s channel steps mail inbox n (now + 1) h in
     omega arith
 
-unarrived : (history : List IssuedCommand) (now : ℕ) (later : List Message) → Each Stamped later → NotBefore now later → filter (is_queued history now) (requests_of later) ≡ []
+unarrived : (history : List IssuedCommand) (now : ℕ) (later : List Message) → Each Stamped later → NotBefore now later → filter (is_queued history now) (carried_requests later) ≡ []
 unarrived history now [] h k = refl
 unarrived history now (m ∷ ms) h k = by (request_in m.payload) h.0 (unarrived history now ms h.1 k.1)
   where
     late : (r : Request) → r.arrival ≡ m.arrival → now ≤ r.arrival
     late r e = let l = k.0 in omega arith
 
-    by : (o : Option Request) → IfSome o (λ r. r.arrival ≡ m.arrival) → filter (is_queued history now) (requests_of ms) ≡ [] → filter (is_queued history now) (cons_option o (requests_of ms)) ≡ []
+    by : (o : Option Request) → IfSome o (λ r. r.arrival ≡ m.arrival) → filter (is_queued history now) (carried_requests ms) ≡ [] → filter (is_queued history now) (cons_option o (carried_requests ms)) ≡ []
     by None e rest = rest
     by (Some r) e rest = cond-false _ _ _ (ap (λ b. b && not (is_served history r)) (le-ltb r.arrival now (late r e))) ∙ rest
 
@@ -110,5 +110,5 @@ pub queued-late : (history : List IssuedCommand) (now : ℕ) (mail later : List 
 unfolding queued_requests
 queued-late history now mail later h k =
     let p = is_queued history now in
-    ap (filter p) (requests-append mail later) ∙ filter-append p (requests_of mail) (requests_of later)
-    ∙ ap (λ x. filter p (requests_of mail) ++ x) (unarrived history now later h k) ∙ append-nil (filter p (requests_of mail))
+    ap (filter p) (requests-append mail later) ∙ filter-append p (carried_requests mail) (carried_requests later)
+    ∙ ap (λ x. filter p (carried_requests mail) ++ x) (unarrived history now later h k) ∙ append-nil (filter p (carried_requests mail))

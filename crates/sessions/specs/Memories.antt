@@ -8,9 +8,10 @@
 --     number_of s request      the channel that a request goes to: that of its address
 --     session_at memory number other      the session of a channel
 --     memory_refusal memory pasts other request      why a request is refused, if it is
---     with_request_of s pasts request, with_command_of pasts taken, with_reply_of pasts taken      pasts with one message more that was sent, or that was taken
---     command_cycles pasts now, reply_arrivals pasts now      the cycles of the first command and reply of each channel that was not taken
---     IsFirstCommand memory pasts first, IsFirstReply memory pasts first      the channel with the earliest of these, and its cycle
+--     with_request_of s pasts request      pasts with one request more that was sent
+--     with_command_of pasts taken, with_reply_of pasts taken      pasts with one command or reply more that was taken
+--     command_cycles pasts now k, reply_arrivals pasts now k      the cycle of the first command or reply not taken
+--     IsFirstCommand memory pasts first, IsFirstReply memory pasts first      the earliest of these, with its channel
 --     command_from pasts now number, reply_from pasts now number      the next command and reply of a channel
 --     IsNextCommand channels pasts now next, IsNextReply channels pasts now next      the first of all, if there is one
 --     IsNextActOf channels pasts now next      the next cycle in which a channel acts, if there is one

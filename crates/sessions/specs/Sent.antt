@@ -30,7 +30,11 @@ request_of s channel sent =
 -- the message that carries it
 abbrev pub message_of : Config → ℕ → SentRequest → Message
 message_of s channel sent =
-    record { link = request_link s sent.core channel; arrival = sent.arrival; payload = payload.Request (request_of s channel sent) }
+    record {
+      link = request_link s sent.core channel;
+      arrival = sent.arrival;
+      payload = payload.Request (request_of s channel sent);
+    }
 
 -- an entry of a core may be asked for: neither it nor a later one was, and it is not the last number there is
 abbrev pub is_unasked : List ℕ → ℕ → ℕ → Bool

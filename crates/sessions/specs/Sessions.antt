@@ -7,7 +7,7 @@
 --     core_of s reply      the core that a reply goes to
 --     next_command_of p now, next_reply_of p now      the first command, or reply, that was not taken
 --     statistics_of p now, waiting_of p now      the statistics of the cycles before one; how many requests wait in it
---     with_sent p m, with_command p o, with_reply p o      a past with one message more that was sent, or that was taken
+--     with_sent p m, with_command p o, with_reply p o      a past with one message more that was sent or taken
 --     with_request p request      a past with one request more that was sent
 --     number_refusal s channel      why no session is opened, if none is
 --     refusal session waits request, end_refusal now until      why a request or a run is refused, if it is
@@ -114,16 +114,17 @@ with_reply p None = p
 abbrev pub number_refusal : Config → ℕ → Option SessionFault
 number_refusal s channel = if nat_lt channel s.channels then None else Some NoSuchChannel
 
--- Why a request is refused where so many requests wait, if it is: its core or its channel is not there, it arrives in a
--- cycle that is over, or not after all that are on their way, its entry cannot be asked for any more, or there is no
--- credit for it.
+-- Why a request is refused where so many requests wait, if it is: its core is not there, its address is of another
+-- channel, it arrives in a cycle that is over, or not after all that are on their way, its entry cannot be asked for
+-- any more, or there is no credit for it.
 abbrev pub refusal : Session → ℕ → SentRequest → Option SessionFault
 refusal session waits r =
     if nat_le session.config.cores r.core then Some NoSuchCore
     else if not ((place_of session.config r.address).channel == session.number) then Some OtherChannel
     else if nat_lt r.arrival session.cycle then Some InThePast
     else
-    if not (list_all (λ n. is_before n (message_of session.config session.number r)) session.coming.items) then Some OutOfOrder
+    if not (list_all (λ n. is_before n (message_of session.config session.number r)) session.coming.items)
+    then Some OutOfOrder
     else if not (is_unasked session.firsts.items r.core r.entry) then Some EntryPassed
     else if nat_le (queue_room session.config) (waits + length session.coming.items) then Some NoCredit
     else None

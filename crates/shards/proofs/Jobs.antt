@@ -7,7 +7,6 @@ use Rattle.std.specs.declared.vec.Vec.{Vec}
 use Rattle.std.specs.declared.alloc.Global.{Global}
 use Rattle.std.specs.declared.sync.Arc.{Arc}
 use Rattle.std.proofs.lemmas.List.Elements.{All-from_recursion, recursion_from_All}
-use Rattle.std.proofs.lemmas.List.{get_or_default}
 use Rattle.sim_base.specs.History.{insert_by_age}
 use Rattle.sim_base.specs.declared.message.Message.{Message}
 use Rattle.sim_base.specs.Locality.{TravelsFor}
@@ -18,16 +17,15 @@ use Rattle.shards.specs.Lists.{AreSortedByShard, bound, lists_of}
 use Rattle.shards.specs.Shards.{HasShardRun, IsUpTo, sent_of_shard}
 use Rattle.shards.specs.Jobs.{IsJob, IsDone}
 use Rattle.units.specs.Units.{unit_at, unit_count}
-use Rattle.units.specs.Wakes.{AreLowered, HaveRun, IsAsleep, WaitAll, sent_in, sleeper_at}
+use Rattle.units.specs.Wakes.{AreLowered, HaveRun, AreBetweenPhases, WaitAll, sent_in, unit_with_word_at}
 use Rattle.units.specs.declared.machine.Machine.{Machine}
 use Rattle.shards.specs.declared.shard.Shard.{Shard}
 use Rattle.units.specs.declared.timed_unit.TimedUnit.{TimedUnit}
 use Rattle.shards.specs.declared.job.JobName.{JobName}
 use Rattle.units.proofs.Joining.{fresh-late}
-use Rattle.units.proofs.Jumping.{still-waits}
+use Rattle.units.proofs.Jumping.{still-waits, waiting-words}
 use Rattle.units.proofs.Lowering.{lowered-wait_all}
 use Rattle.units.proofs.Sharing.{among-joins}
-use Rattle.sim_base.proofs.Lists.{some-of}
 
 -- what was sent to the units of a shard arrives no sooner than what was sent to all
 pub inbound-later : (machine : Machine) (bounds : List ℕ) (index now : ℕ) (shard : Shard) (inbound : List (Vec Message Global)) → IsUpTo machine bounds index now shard inbound
@@ -42,7 +40,7 @@ inbound-later machine bounds index now shard inbound h =
 pub taken-up : (machine : Machine) (bounds : List ℕ) (index now : ℕ) (shard : Shard) (inbound : List (Vec Message Global)) (words : List ℕ) (links : InFlight)
     → IsUpTo machine bounds index now shard inbound → AreLowered machine.config shard.range.first (lists_of inbound) shard.range.words.items words
     → links ≡ record shard.traffic.links { messages = fold insert_by_age shard.traffic.links.messages (lists_of inbound) }
-    → IsAsleep machine shard.range.first now shard.range.units.items words links
+    → AreBetweenPhases machine shard.range.first now shard.range.units.items words links
 taken-up machine bounds index now shard inbound words links h low e =
     let first = shard.range.first in
     let units = shard.range.units.items in
@@ -51,7 +49,7 @@ taken-up machine bounds index now shard inbound words links h low e =
       early = h.early;
       within = h.has_run.within;
       words_count = low.count ∙ h.has_run.words_count;
-      wait = λ k d less. still-waits machine (unit_at machine.config (first + k)) h.last now (sleeper_at units words k d) (before k d less) h.still h.since (later k less);
+      wait = λ k d less. still-waits machine (unit_at machine.config (first + k)) h.last now (unit_with_word_at units words k d) (before k d less) h.still h.since (later k less);
       flight = e
           ∙ ap {A = InFlight} {B = InFlight} (λ l. record l { messages = fold insert_by_age l.messages (lists_of inbound) }) h.has_run.flight
           ∙ ap {B = InFlight} (λ ms. record { channels = machine.config.channels; messages = ms })
@@ -104,10 +102,7 @@ job-ends machine bounds name wake before after inbound lists h shared same first
 
 -- at the end of a phase no word is sooner
 pub has_run-words : (machine : Machine) (first now until : ℕ) (units : List TimedUnit) (words : List ℕ) (links : InFlight) → HaveRun machine first now until units words links → All (λ w. until ≤ w) words
-has_run-words machine first now until units words links h k d less =
-    let i : k < length units = omega (arith, less, h.words_count) in
-    let e : get_or words k 0 ≡ get_or words k d = get_or_default words k 0 d less in
-    subst (λ w. until ≤ w) e (h.between k (some-of units (omega (arith, i))) i).ahead
+has_run-words machine first now until units words links h = waiting-words machine first until now units words h.words_count h.between
 
 -- what some units send in a phase does not arrive before its end
 pub part-late : (machine : Machine) (now until first count : ℕ) → first + count ≤ unit_count machine.config → now ≤ until → TravelsFor machine.config (until - now) → All (λ m. until ≤ m.arrival) (sent_by machine now until first count)

@@ -27,12 +27,12 @@ use Rattle.shards.specs.Jobs.{job_at, jobs_at}
 use Rattle.shards.specs.Phases.{PhaseView, IsPhase, AreTakenApart}
 use Rattle.links.specs.Rings.{later_of}
 use Rattle.units.specs.Units.{unit_at, unit_count}
-use Rattle.units.specs.Wakes.{Sleeper, HaveRun, IsAsleep, IsStill, Waits, sent_in, sleeper_at}
+use Rattle.units.specs.Wakes.{UnitWithWord, HaveRun, AreBetweenPhases, IsStill, Waits, sent_in, unit_with_word_at}
 use Rattle.shards.specs.declared.shard.Shard.{Shard}
 use Rattle.units.specs.declared.timed_unit.TimedUnit.{TimedUnit}
 use Rattle.units.proofs.Joining.{flat-split}
 use Rattle.units.proofs.Due.{flight-each}
-use Rattle.units.proofs.Jumping.{AllRest, sent_by-none, sent_in-none, asleep-until, sleep-on}
+use Rattle.units.proofs.Jumping.{AllRest, sent_by-none, sent_in-none, between_phases-until, sleep-on}
 use Rattle.units.proofs.SpanLaws.Later.{IsReceived}
 use Rattle.units.proofs.Lowering.{lowered-waits}
 use Rattle.units.proofs.Waiting.{none-due}
@@ -125,16 +125,16 @@ sharded-still machine bounds now phase wake then shards inbound h l w = sleep-on
         let k = place - bound bounds at.index in
         let i : k < length shard.range.units.items = omega (arith, at.since, at.before, r.is.first_is, r.is.past_is) in
         let d = some-of shard.range.units.items (omega (arith, i)) in
-        let sleeper = sleeper_at shard.range.units.items shard.range.words.items k d in
+        let unit_with_word = unit_with_word_at shard.range.units.items shard.range.words.items k d in
         let e : shard.range.first + k ≡ place = omega (arith, at.since, r.is.first_is) in
         let u = unit_at machine.config place in
-        let b = subst (λ n. Waits machine (unit_at machine.config n) now h.began sleeper) e (r.has_run.between k d i) in
+        let b = subst (λ n. Waits machine (unit_at machine.config n) now h.began unit_with_word) e (r.has_run.between k d i) in
         let later = r.sleep k 0 (omega (arith, i, r.has_run.words_count)) in
-        let after : Sleeper = record { part = sleeper.part; at = sleeper.at; wake = then } in
+        let after : UnitWithWord = record { part = unit_with_word.part; at = unit_with_word.at; wake = then } in
         record {
-          sleeper = after;
+          unit_with_word = after;
           wakes = omega arith;
-          waits = lowered-waits machine u h.began now sleeper after h.order h.travels b refl refl l (omega (arith, later, w))
+          waits = lowered-waits machine u h.began now unit_with_word after h.order h.travels b refl refl l (omega (arith, later, w))
               (none-due machine.config.channels now then then u (sent_in machine h.began now) (λ j m o to. sent j m o) (omega arith));
         }
 
@@ -250,8 +250,8 @@ late-now machine now =
     since a l = grind (arith, nat_tests)
 
 -- units that wait at a cycle have gone over no cycles
-asleep-has_run : (machine : Machine) (first now : ℕ) (units : List TimedUnit) (words : List ℕ) (links : InFlight) → IsAsleep machine first now units words links → HaveRun machine first now now units words links
-asleep-has_run machine first now units words links h =
+between_phases-has_run : (machine : Machine) (first now : ℕ) (units : List TimedUnit) (words : List ℕ) (links : InFlight) → AreBetweenPhases machine first now units words links → HaveRun machine first now now units words links
+between_phases-has_run machine first now units words links h =
     record {
       within = h.within;
       words_count = h.words_count;
@@ -278,12 +278,12 @@ sharded-begins machine bounds now phase shards inbound counted early h many squa
       inbound_count = many;
       rest = λ index d less.
           let shard = (get_or shards index d).value in
-          let a = h.asleep index d less in
+          let a = h.between_phases index d less in
           record {
             is = h.each index d less;
-            has_run = asleep-has_run machine shard.range.first now shard.range.units.items shard.range.words.items shard.traffic.links a;
+            has_run = between_phases-has_run machine shard.range.first now shard.range.units.items shard.range.words.items shard.traffic.links a;
             since = omega arith;
-            sleep = asleep-until machine shard.range.first now shard.range.units.items shard.range.words.items shard.traffic.links a;
+            sleep = between_phases-until machine shard.range.first now shard.range.units.items shard.range.words.items shard.traffic.links a;
             arrivals = subst (All (λ (m : Message). now ≤ m.arrival)) (sym (sent_by-none machine now shard.range.first (length shard.range.units.items))) (λ k e l. absurd (omega (arith, l)));
           };
       lists = λ index d less. ap suc (square index d less) ∙ h.count;

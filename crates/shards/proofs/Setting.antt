@@ -17,7 +17,7 @@ use Rattle.shards.specs.Jobs.{JobView, IsJob, IsOwnJob, job_view}
 use Rattle.shards.specs.Phases.{PhaseView, MayGo, MayStop, job_of, name_of}
 use Rattle.units.specs.declared.machine.Machine.{Machine}
 use Rattle.units.specs.Units.{unit_count}
-use Rattle.units.specs.Wakes.{AreLowered, IsAsleep}
+use Rattle.units.specs.Wakes.{AreLowered, AreBetweenPhases}
 use Rattle.shards.specs.declared.shard.Shard.{Shard}
 use Rattle.shards.specs.declared.job.JobName.{JobName}
 use Rattle.shards.proofs.Jobs.{taken-up}
@@ -89,15 +89,15 @@ stop-of_machine machine bounds index now shard inbound h =
       links = ap (λ (x : InFlight). x.channels) h.has_run.flight ∙ sym (ap (λ (m : Machine). m.config.channels) h.is.machine_is);
     }
 
--- a shard that takes up its lists sleeps
+-- a shard that takes up its lists is between phases
 pub stops : (machine : Machine) (bounds : List ℕ) (index now : ℕ) (before after : Shard) (inbound : List (Vec Message Global)) → IsUpTo machine bounds index now before inbound
     → after ≡ record before { range = record before.range { words = after.range.words }; traffic = record before.traffic { links = after.traffic.links } }
     → AreLowered (arc_value before.machine).config before.range.first (lists_of inbound) before.range.words.items after.range.words.items
     → after.traffic.links ≡ record before.traffic.links { messages = fold insert_by_age before.traffic.links.messages (lists_of inbound) }
-    → IsShard machine bounds index after × IsAsleep machine after.range.first now after.range.units.items after.range.words.items after.traffic.links
+    → IsShard machine bounds index after × AreBetweenPhases machine after.range.first now after.range.units.items after.range.words.items after.traffic.links
 stops machine bounds index now before after inbound h same low links =
     let is = h.is in
-    subst (λ (x : Shard). IsShard machine bounds index x × IsAsleep machine x.range.first now x.range.units.items x.range.words.items x.traffic.links) (sym same) (
+    subst (λ (x : Shard). IsShard machine bounds index x × AreBetweenPhases machine x.range.first now x.range.units.items x.range.words.items x.traffic.links) (sym same) (
       record {
         machine_is = is.machine_is;
         bounds_are = is.bounds_are;

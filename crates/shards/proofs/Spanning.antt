@@ -22,7 +22,7 @@ use Rattle.units.specs.Flight.{goes_among, among}
 use Rattle.links.specs.Rings.{later_of}
 use Rattle.units.specs.Units.{unit_at}
 use Rattle.units.proofs.Due.{flight-each}
-use Rattle.units.specs.Wakes.{HoldInboxes, HaveRun, IsAsleep, HoldsInbox, WaitAll, units_from, links_after}
+use Rattle.units.specs.Wakes.{HoldInboxes, HaveRun, AreBetweenPhases, HoldsInbox, WaitAll, units_from, links_after}
 use Rattle.units.specs.declared.timed_unit.TimedUnit.{TimedUnit}
 use Rattle.units.proofs.Going.{units-places}
 use Rattle.units.proofs.Sharing.{due-among}
@@ -35,7 +35,7 @@ none-in_flight machine now (Channel channel) =
     ap (filter (is_due machine.config.channels (Channel channel) 0 now)) (sym (flights-meet machine.config machine.traces.items now)) ∙ unit-overdue machine.config machine.traces.items now now (Channel channel)
 
 -- what is in flight is brought to all units, in a phase that is no longer than any message travels
-pub phase-holds_inbox : (machine : Machine) (first now until : ℕ) (units : List TimedUnit) (words : List ℕ) (links : InFlight) → IsAsleep machine first now units words links → now ≤ until
+pub phase-holds_inbox : (machine : Machine) (first now until : ℕ) (units : List TimedUnit) (words : List ℕ) (links : InFlight) → AreBetweenPhases machine first now units words links → now ≤ until
     → TravelsFor machine.config (until - now) → HoldInboxes machine first (length units) now now until links
 phase-holds_inbox machine first now until units words links h l t k less =
     let u = unit_at machine.config (first + k) in
@@ -85,7 +85,7 @@ phase-left machine first count now until =
         ∙ kept (goes m) (leb now m.arrival) (ltb m.arrival until) since
 
 -- when all units have taken theirs, the phase is over for them
-pub phase-has_run : (machine : Machine) (first now until : ℕ) (before units : List TimedUnit) (old words : List ℕ) (links after : InFlight) → IsAsleep machine first now before old links
+pub phase-has_run : (machine : Machine) (first now until : ℕ) (before units : List TimedUnit) (old words : List ℕ) (links after : InFlight) → AreBetweenPhases machine first now before old links
     → length units ≡ length before → length words ≡ length old → WaitAll machine first until now units words → after ≡ links_after machine.config now until first (length before) links
     → HaveRun machine first now until units words after
 phase-has_run machine first now until before units old words links after h e f wait left =

@@ -26,10 +26,10 @@ use Rattle.links.proofs.Ages.{by_age-same}
 use Rattle.units.specs.declared.machine.Machine.{Machine}
 use Rattle.units.specs.Runs.{flight_at}
 use Rattle.units.specs.Flight.{is_at_places, goes_among, among}
-use Rattle.shards.specs.Shards.{AllAwake, AreShards, IsShard, IsSplit, Sleeps, links_among}
+use Rattle.shards.specs.Shards.{AllAwake, AreShards, IsShard, IsSplit, IsBetweenPhases, links_among}
 use Rattle.units.specs.Parts.{IsPart, StandAt}
 use Rattle.units.specs.Units.{unit_count, unit_at}
-use Rattle.units.specs.Wakes.{AreTimedUnits, IsAsleep, Waits, sleeper}
+use Rattle.units.specs.Wakes.{AreTimedUnits, AreBetweenPhases, Waits, unit_with_word}
 use Rattle.units.specs.declared.part.UnitState.{UnitState}
 use Rattle.shards.specs.declared.shard.Shard.{Shard}
 use Rattle.units.specs.declared.timed_unit.TimedUnit.{TimedUnit}
@@ -147,16 +147,16 @@ among-nothing s (m ∷ ms) = cond-false _ _ _ (none (receiver_of s.channels m.li
     none (Core core) = grind (arith, nat_tests)
     none (Channel channel) = grind (arith, nat_tests)
 
--- units that all stand at a cycle sleep, with what goes to them of the messages in flight
-pub shard-asleep : (machine : Machine) (first past now : ℕ) (units : List TimedUnit) (words : List ℕ) (links : InFlight) → now ≤ 10 ^ 12 → first + length units ≡ past → past ≤ unit_count machine.config
-    → AllAwake machine first now units → words ≡ replicate (length units) now → links ≡ links_among machine.config first past (flight_at machine now) → IsAsleep machine first now units words links
-shard-asleep machine first past now units words links early count within wait fill flight = record {
+-- units that all stand at a cycle are between phases, with what goes to them of the messages in flight
+pub shard-between_phases : (machine : Machine) (first past now : ℕ) (units : List TimedUnit) (words : List ℕ) (links : InFlight) → now ≤ 10 ^ 12 → first + length units ≡ past → past ≤ unit_count machine.config
+    → AllAwake machine first now units → words ≡ replicate (length units) now → links ≡ links_among machine.config first past (flight_at machine now) → AreBetweenPhases machine first now units words links
+shard-between_phases machine first past now units words links early count within wait fill flight = record {
   early = early;
   within = omega (arith, count, within);
   words_count = ap length fill ∙ length-replicate (length units) now;
   wait = λ k d l.
       let word : get_or words k 0 ≡ now = ap (λ z. get_or z k 0) fill ∙ get_or-replicate (length units) k now 0 l in
-      subst (λ w. Waits machine (unit_at machine.config (first + k)) now now (sleeper (get_or units k d) w)) (sym word) (wait k d l);
+      subst (λ w. Waits machine (unit_at machine.config (first + k)) now now (unit_with_word (get_or units k d) w)) (sym word) (wait k d l);
   flight = flight
       ∙ ap {B = InFlight} (λ z. record { channels = machine.config.channels; messages = z }) (flight-share machine now first past)
       ∙ ap {B = InFlight} (λ n. record { channels = machine.config.channels; messages = among machine.config first n (flight_at machine now) }) (sym count);
@@ -169,34 +169,34 @@ front-waits machine now first n units left own e f l h k d m =
     let size : length own ≤ n = omega (arith, ap length f, length-take n left) in
     let less : k < n = omega (arith, m, size) in
     let at : get_or own k d ≡ get_or units (first + k) d = ap (λ z. get_or z k d) (f ∙ ap (take n) e) ∙ get_or-take n (drop first units) k d less ∙ get_or-drop first units k d in
-    subst (λ (x : TimedUnit). Waits machine (unit_at machine.config (first + k)) now now (sleeper x now)) (sym at)
-    (subst (λ n. Waits machine (unit_at machine.config n) now now (sleeper (get_or units (first + k) d) now)) (zero-add (first + k)) (h (first + k) d (omega (arith, less, l))))
+    subst (λ (x : TimedUnit). Waits machine (unit_at machine.config (first + k)) now now (unit_with_word x now)) (sym at)
+    (subst (λ n. Waits machine (unit_at machine.config n) now now (unit_with_word (get_or units (first + k) d) now)) (zero-add (first + k)) (h (first + k) d (omega (arith, less, l))))
 
 -- a shard with its number
 abbrev pub IsMade : Machine → List ℕ → ℕ → ℕ → Box Shard Global → Type 0
-IsMade machine bounds now index b = IsShard machine bounds index b.value × Sleeps machine now b.value
+IsMade machine bounds now index b = IsShard machine bounds index b.value × IsBetweenPhases machine now b.value
 
 -- the shards of a machine so far
 pub record AreMade (machine : Machine) (bounds : List ℕ) (now : ℕ) (shards : List (Box Shard Global)) : Type 0 where
   pub each : (index : ℕ) (d : Box Shard Global) → index < length shards → IsShard machine bounds index (get_or shards index d).value
-  pub asleep : (index : ℕ) (d : Box Shard Global) → index < length shards → Sleeps machine now (get_or shards index d).value
+  pub between_phases : (index : ℕ) (d : Box Shard Global) → index < length shards → IsBetweenPhases machine now (get_or shards index d).value
 
 pub made-none : (machine : Machine) (bounds : List ℕ) (now : ℕ) (shards : List (Box Shard Global)) → shards ≡ [] → AreMade machine bounds now shards
-made-none machine bounds now shards e = let f = ap length e in record { each = λ index d l. absurd (omega (arith, l, f)); asleep = λ index d l. absurd (omega (arith, l, f)) }
+made-none machine bounds now shards e = let f = ap length e in record { each = λ index d l. absurd (omega (arith, l, f)); between_phases = λ index d l. absurd (omega (arith, l, f)) }
 
 pub made-push : (machine : Machine) (bounds : List ℕ) (now : ℕ) (shards : List (Box Shard Global)) (x : Box Shard Global) → AreMade machine bounds now shards
-    → IsShard machine bounds (length shards) x.value → Sleeps machine now x.value → AreMade machine bounds now (shards ++ x ∷ [])
-made-push machine bounds now shards x h is asleep = record {
+    → IsShard machine bounds (length shards) x.value → IsBetweenPhases machine now x.value → AreMade machine bounds now (shards ++ x ∷ [])
+made-push machine bounds now shards x h is between_phases = record {
   each = λ index d l. (both index d (omega (arith, l, length-push_suc shards x)) (cases_lt index (length shards))).0;
-  asleep = λ index d l. (both index d (omega (arith, l, length-push_suc shards x)) (cases_lt index (length shards))).1;
+  between_phases = λ index d l. (both index d (omega (arith, l, length-push_suc shards x)) (cases_lt index (length shards))).1;
 }
   where
     both : (index : ℕ) (d : Box Shard Global) → index < suc (length shards) → (index < length shards) ⊎ (length shards ≤ index) → IsMade machine bounds now index (get_or (shards ++ x ∷ []) index d)
-    both index d l (inl m) = subst (IsMade machine bounds now index) (sym (get_or_append_left shards (x ∷ []) d index m)) (h.each index d m, h.asleep index d m)
+    both index d l (inl m) = subst (IsMade machine bounds now index) (sym (get_or_append_left shards (x ∷ []) d index m)) (h.each index d m, h.between_phases index d m)
     both index d l (inr m) =
         let last : index ≡ length shards = omega (arith, l, m) in
         let at : get_or (shards ++ x ∷ []) index d ≡ x = ap (λ n. get_or (shards ++ x ∷ []) n d) last ∙ get_or-append_seam shards x [] d in
-        subst (IsMade machine bounds now index) (sym at) (subst (λ n. IsMade machine bounds now n x) (sym last) (is, asleep))
+        subst (IsMade machine bounds now index) (sym at) (subst (λ n. IsMade machine bounds now n x) (sym last) (is, between_phases))
 
 -- the shard after some of a machine's
 pub shard-seam : (machine : Machine) (bounds : List ℕ) (now : ℕ) (shards ys rest : List (Box Shard Global)) (x : Box Shard Global) → AreShards machine bounds now shards
@@ -204,12 +204,12 @@ pub shard-seam : (machine : Machine) (bounds : List ℕ) (now : ℕ) (shards ys 
 shard-seam machine bounds now shards ys rest x h e =
     let less = seam-within shards ys rest x (length shards) e refl in
     let at : get_or shards (length ys) x ≡ x = ap (λ z. get_or z (length ys) x) (sym e) ∙ get_or-append_seam ys x rest x in
-    subst (IsMade machine bounds now (length ys)) at (h.each (length ys) x less, h.asleep (length ys) x less)
+    subst (IsMade machine bounds now (length ys)) at (h.each (length ys) x less, h.between_phases (length ys) x less)
 
 -- a machine has a shard
 pub shards-early : (machine : Machine) (bounds : List ℕ) (now : ℕ) (shards : List (Box Shard Global)) → AreShards machine bounds now shards → now ≤ 10 ^ 12
 shards-early machine bounds now [] h = absurd (omega (arith, h.split.some, h.count))
-shards-early machine bounds now (x ∷ xs) h = (h.asleep 0 x (omega arith)).early
+shards-early machine bounds now (x ∷ xs) h = (h.between_phases 0 x (omega arith)).early
 
 -- units that all stand at a cycle are asked in the next phase
 pub units-wait : (machine : Machine) (now : ℕ) (parts : List UnitState) (units : List TimedUnit) → StandAt machine now parts → AreTimedUnits now parts units → AllAwake machine 0 now units
@@ -217,8 +217,8 @@ units-wait machine now parts units h e k d l =
     let less : k < length parts = omega (arith, l, e.count) in
     let p = some-part parts (omega (arith, less)) in
     let stands = subst (IsPart machine (unit_at machine.config k) now) (sym (e.parts_are k d p less)) (h k (get_or parts k p) (slice_get-get_or parts k p less)) in
-    subst (λ n. Waits machine (unit_at machine.config n) now now (sleeper (get_or units k d) now)) (sym (zero-add k))
-    (awake-waits machine (unit_at machine.config k) now (sleeper (get_or units k d) now) stands (e.stand k d less) refl)
+    subst (λ n. Waits machine (unit_at machine.config n) now now (unit_with_word (get_or units k d) now)) (sym (zero-add k))
+    (awake-waits machine (unit_at machine.config k) now (unit_with_word (get_or units k d) now) stands (e.stand k d less) refl)
   where
     some-part : (xs : List UnitState) → 0 < length xs → UnitState
     some-part [] l = absurd (omega (arith, l))

@@ -96,7 +96,7 @@ no-missing : (p : PhaseView) (names : List JobName) → ((place : ℕ) → place
 unfolding missing
 no-missing p names h =
     ap (option_map Missing)
-    (find-none (λ place. not (is_among names (name_of p place))) 0 (shard_count p) (λ i l. ap not (h i (omega arith))))
+    (find-none (λ place. not (is_among names (name_of p place))) 0 (shard_count p) (λ i from l. ap not (h i (omega arith))))
 
 -- the names of results of which there is one of each job are those of the jobs, in some order
 moved : (p : PhaseView) (results : List JobView) → IsPermutation (jobs_of p) results → IsPermutation (names_of p) (map (λ (d : JobView). d.name) results)

@@ -29,7 +29,8 @@ abbrev pub job_view : Shard → JobName → JobView
 job_view shard name = record { machine = arc_value shard.machine; bounds = shard.bounds.items; name = name }
 
 -- A shard's job in a phase: the shard stands where the phase begins, or before, and nothing happens up to there.
-pub record IsJob (machine : Machine) (bounds : List ℕ) (name : JobName) (shard : Shard) (inbound : List (Vec Message Global)) : Type 0 where
+pub record IsJob (machine : Machine) (bounds : List ℕ) (name : JobName) (shard : Shard)
+    (inbound : List (Vec Message Global)) : Type 0 where
   pub before : IsUpTo machine bounds name.shard name.from shard inbound
   pub next : name.from < name.until
   pub early : name.until ≤ 10 ^ 12
@@ -40,7 +41,8 @@ abbrev pub IsOwnJob : JobName → Shard → List (Vec Message Global) → Type 0
 IsOwnJob name shard inbound = IsJob (arc_value shard.machine) shard.bounds.items name shard inbound
 
 -- A shard has run its job in a phase.
-pub record IsDone (machine : Machine) (bounds : List ℕ) (name : JobName) (wake : ℕ) (shard : Shard) (outbound : List (Vec Message Global)) : Type 0 where
+pub record IsDone (machine : Machine) (bounds : List ℕ) (name : JobName) (wake : ℕ) (shard : Shard)
+    (outbound : List (Vec Message Global)) : Type 0 where
   pub split : IsSplit machine.config bounds
   pub rests : IsAtRest machine bounds name.shard name.from name.until wake shard
   pub order : name.from ≤ name.until
@@ -55,7 +57,11 @@ IsOwnDone name wake shard outbound = IsDone (arc_value shard.machine) shard.boun
 -- the job of the shard with number `index` in a phase
 abbrev pub job_at : Machine → List ℕ → ℕ → ℕ → ℕ → ℕ → JobView
 job_at machine bounds phase from until index =
-    record { machine = machine; bounds = bounds; name = record { phase = phase; shard = index; from = from; until = until } }
+    record {
+      machine = machine;
+      bounds = bounds;
+      name = record { phase = phase; shard = index; from = from; until = until };
+    }
 
 -- the jobs of all shards in a phase, by shard
 abbrev pub jobs_at : Machine → List ℕ → ℕ → ℕ → ℕ → List JobView

@@ -104,7 +104,8 @@ ended phase = sharded_view phase.machine phase.bounds phase.until (suc phase.num
 
 -- What came of the jobs of a phase, shard by shard: each is at rest up to a cycle, and what it sent stands in its
 -- lists.
-pub record AreTakenApart (p : PhaseView) (wake : ℕ) (shards : List (Box Shard Global)) (outbound : List (Vec (Vec Message Global) Global)) : Type 0 where
+pub record AreTakenApart (p : PhaseView) (wake : ℕ) (shards : List (Box Shard Global))
+    (outbound : List (Vec (Vec Message Global) Global)) : Type 0 where
   pub since : p.until ≤ wake
   pub count : length shards ≡ length (jobs_of p)
   pub outbound_count : length outbound ≡ length shards
@@ -113,21 +114,23 @@ pub record AreTakenApart (p : PhaseView) (wake : ℕ) (shards : List (Box Shard 
   pub outbound_are : (index : ℕ) (d : Box Shard Global) (e : Vec (Vec Message Global) Global) → index < length shards
       → AreFrom p.machine p.bounds p.from p.until (nth_shard shards index d) (slice_index_or outbound index e).items
 
--- for each phase of which these are the results, one for each shard: what came of its jobs
+-- for each phase, up to cycle 10^12, of which these are the results, one for each shard: what came of its jobs
 abbrev pub TakesApartAny : List (Option JobView) → ℕ → List (Box Shard Global) → List (Vec (Vec Message Global) Global)
     → Type 0
 TakesApartAny places wake shards outbound =
     (p : PhaseView) → p.until ≤ 10 ^ 12 → places ≡ map Some (jobs_of p) → AreTakenApart p wake shards outbound
 
 -- All shards may go over a phase: each was at rest before, and nothing happens up to its beginning.
-pub record MayGo (p : PhaseView) (shards : List (Box Shard Global)) (inbound : List (Vec (Vec Message Global) Global)) : Type 0 where
+pub record MayGo (p : PhaseView) (shards : List (Box Shard Global)) (inbound : List (Vec (Vec Message Global) Global))
+    : Type 0 where
   pub count : suc (length shards) ≡ length p.bounds
   pub inbound_count : length inbound ≡ length shards
   pub each : (index : ℕ) (d : Box Shard Global) (e : Vec (Vec Message Global) Global) → index < length shards
       → IsJob p.machine p.bounds (name_of p index) (nth_shard shards index d) (slice_index_or inbound index e).items
 
 -- All shards may stop at a cycle: each was at rest before, and nothing happens up to there.
-pub record MayStop (machine : Machine) (bounds : List ℕ) (now : ℕ) (shards : List (Box Shard Global)) (inbound : List (Vec (Vec Message Global) Global)) : Type 0 where
+pub record MayStop (machine : Machine) (bounds : List ℕ) (now : ℕ) (shards : List (Box Shard Global))
+    (inbound : List (Vec (Vec Message Global) Global)) : Type 0 where
   pub split : IsSplit machine.config bounds
   pub early : now ≤ 10 ^ 12
   pub count : suc (length shards) ≡ length bounds

@@ -3,14 +3,14 @@
 --     IsSplit s bounds      where each shard begins, and how many units there are
 --     nth_shard shards index d      the shard with a number
 --     IsShard machine bounds index shard      the shard with a number, of this machine
---     Sleeps machine now shard      a shard's units wait at a cycle, with what is in flight to them
---     SleepsAt machine first now shard      a shard's units wait at a cycle, at places from `first` on
---     IsRangeAsleep machine now range links      the units of a range wait at a cycle, with what is in flight to them
+--     IsBetweenPhases machine now shard      a shard's units wait at a cycle, with what is in flight to them
+--     IsBetweenPhasesAt machine first now shard      a shard's units wait at a cycle, at places from `first` on
+--     IsRangeBetweenPhases machine now range links      a range's units wait at a cycle, with what is in flight to them
 --     HasShardRun machine from until shard      a shard's units have gone over a phase
 --     HasRangeRun machine from until range links      the units of a range have gone over a phase
---     AllAwake machine first now units      units at places from `first` on stand at a cycle, where each may be asked
+--     AllAwake machine first now units      units at places from `first` on wait at a cycle, which is the word of each
 --     links_among s first past ms, flight_to machine now first past      links that hold what goes to some units
---     HaveSent machine from until range mail      what units sent in a span stands in a list
+--     HaveSent machine from until range lists      a list holds what the units of a range send in a span
 --     sent_of_shard machine from until shard      what the units of a shard send in a span
 --     AreFor machine from until shard lists      lists hold what was sent to the units of a shard in a span
 --     AreFrom machine bounds from until shard lists      lists hold what a shard's units sent, by receiving shard
@@ -40,7 +40,7 @@ use Rattle.units.specs.Units.{unit_at, unit_count}
 use Rattle.units.specs.declared.machine.Machine.{Machine}
 use Rattle.units.specs.declared.message_lists.MessageLists.{MessageLists}
 use Rattle.units.specs.declared.part.UnitState.{UnitState}
-use Rattle.units.specs.Wakes.{IsStill, HaveRun, IsAsleep, Waits, sent_in, sleeper}
+use Rattle.units.specs.Wakes.{IsStill, HaveRun, AreBetweenPhases, Waits, sent_in, unit_with_word}
 use Rattle.units.specs.declared.timed_unit.TimedUnit.{TimedUnit}
 use Rattle.units.specs.declared.waking.UnitRange.{UnitRange}
 use Rattle.shards.specs.declared.shard.Shard.{Shard}
@@ -67,17 +67,18 @@ pub record IsShard (machine : Machine) (bounds : List ℕ) (index : ℕ) (shard 
 
 -- The units of a shard, at places from `first` on, wait at a cycle, each with its word, and its links hold just what is
 -- in flight to them.
-abbrev pub SleepsAt : Machine → ℕ → ℕ → Shard → Type 0
-SleepsAt machine first now shard =
-    IsAsleep machine first now shard.range.units.items shard.range.words.items shard.traffic.links
+abbrev pub IsBetweenPhasesAt : Machine → ℕ → ℕ → Shard → Type 0
+IsBetweenPhasesAt machine first now shard =
+    AreBetweenPhases machine first now shard.range.units.items shard.range.words.items shard.traffic.links
 
 -- the units of a range wait at a cycle, each with its word, and the links hold just what is in flight to them
-abbrev pub IsRangeAsleep : Machine → ℕ → UnitRange → InFlight → Type 0
-IsRangeAsleep machine now range links = IsAsleep machine range.first now range.units.items range.words.items links
+abbrev pub IsRangeBetweenPhases : Machine → ℕ → UnitRange → InFlight → Type 0
+IsRangeBetweenPhases machine now range links =
+    AreBetweenPhases machine range.first now range.units.items range.words.items links
 
 -- the units of a shard wait at a cycle, each with its word, and its links hold just what is in flight to them
-abbrev pub Sleeps : Machine → ℕ → Shard → Type 0
-Sleeps machine now shard = IsRangeAsleep machine now shard.range shard.traffic.links
+abbrev pub IsBetweenPhases : Machine → ℕ → Shard → Type 0
+IsBetweenPhases machine now shard = IsRangeBetweenPhases machine now shard.range shard.traffic.links
 
 -- the units of a range have gone over a phase, and the links hold what was in flight to them before and arrives later
 abbrev pub HasRangeRun : Machine → ℕ → ℕ → UnitRange → InFlight → Type 0
@@ -88,11 +89,11 @@ HasRangeRun machine from until range links =
 abbrev pub HasShardRun : Machine → ℕ → ℕ → Shard → Type 0
 HasShardRun machine from until shard = HasRangeRun machine from until shard.range shard.traffic.links
 
--- units at places from `first` on stand at cycle `now`, which is the word of each
+-- units at places from `first` on wait at cycle `now`, which is the word of each
 abbrev pub AllAwake : Machine → ℕ → ℕ → List TimedUnit → Type 0
 AllAwake machine first now units =
     (k : ℕ) (d : TimedUnit) → k < length units
-    → Waits machine (unit_at machine.config (first + k)) now now (sleeper (slice_index_or units k d) now)
+    → Waits machine (unit_at machine.config (first + k)) now now (unit_with_word (slice_index_or units k d) now)
 
 -- links that hold, of these messages, those to units at places from `first` up to `past`, put in by age
 abbrev pub links_among : Config → ℕ → ℕ → List Message → InFlight
@@ -121,7 +122,8 @@ AreFor machine from until shard lists =
 
 -- the list with a number holds, of what the units of a shard sent in a span, what goes to those of the shard with
 -- this number
-pub record AreFrom (machine : Machine) (bounds : List ℕ) (from until : ℕ) (shard : Shard) (lists : List (Vec Message Global)) : Type 0 where
+pub record AreFrom (machine : Machine) (bounds : List ℕ) (from until : ℕ) (shard : Shard)
+    (lists : List (Vec Message Global)) : Type 0 where
   pub count : suc (length lists) ≡ length bounds
   pub each : AreSortedByShard machine.config bounds (sent_of_shard machine from until shard) lists
 
@@ -166,7 +168,8 @@ pub record IsAtRest (machine : Machine) (bounds : List ℕ) (index from until wa
 
 -- A shard stands at the end of a phase, lists hold what was sent to its units in that phase, and nothing happens from
 -- there on up to cycle `now`.
-pub record IsUpTo (machine : Machine) (bounds : List ℕ) (index now : ℕ) (shard : Shard) (inbound : List (Vec Message Global)) : Type 0 where
+pub record IsUpTo (machine : Machine) (bounds : List ℕ) (index now : ℕ) (shard : Shard)
+    (inbound : List (Vec Message Global)) : Type 0 where
   pub split : IsSplit machine.config bounds
   pub began : ℕ
   pub last : ℕ
@@ -188,12 +191,13 @@ pub record AreShards (machine : Machine) (bounds : List ℕ) (now : ℕ) (shards
   pub count : suc (length shards) ≡ length bounds
   pub each : (index : ℕ) (d : Box Shard Global) → index < length shards
       → IsShard machine bounds index (nth_shard shards index d)
-  pub asleep : (index : ℕ) (d : Box Shard Global) → index < length shards
-      → Sleeps machine now (nth_shard shards index d)
+  pub between_phases : (index : ℕ) (d : Box Shard Global) → index < length shards
+      → IsBetweenPhases machine now (nth_shard shards index d)
 
 -- What holds of all shards of a machine between two phases: each is at rest, and what was sent to it stands in its
 -- lists.
-pub record IsSharded (machine : Machine) (bounds : List ℕ) (now phase wake : ℕ) (shards : List (Box Shard Global)) (inbound : List (Vec (Vec Message Global) Global)) : Type 0 where
+pub record IsSharded (machine : Machine) (bounds : List ℕ) (now phase wake : ℕ) (shards : List (Box Shard Global))
+    (inbound : List (Vec (Vec Message Global) Global)) : Type 0 where
   pub counted : phase ≤ now
   pub early : now ≤ 10 ^ 12
   pub split : IsSplit machine.config bounds

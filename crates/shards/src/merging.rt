@@ -121,7 +121,7 @@ fn is_of_phase(phase: &Outline, name: JobName) -> bool
 }
 
 /// Whether there is a result in a place.
-fn is_taken(places: &[Option<Done>], shard: usize) -> bool
+fn is_filled(places: &[Option<Done>], shard: usize) -> bool
     requires { shard < length places.now }
     ensures { result ≡ is_some (slice_index_or places.now shard None) }
 {
@@ -145,7 +145,7 @@ fn put(
     if !is_of_phase(phase, name) {
         return Err(MergeFault::Stranger(index));
     }
-    if is_taken(places, name.shard) {
+    if is_filled(places, name.shard) {
         return Err(MergeFault::Double(index));
     }
     places[name.shard] = Some(done);
@@ -179,7 +179,7 @@ fn are_all_there(places: &[Option<Done>]) -> Result<(), MergeFault>
     ensures err { IfErr result (IsMissing places.now) }
 {
     for shard in 0..places.len() {
-        if !is_taken(places, shard) {
+        if !is_filled(places, shard) {
             return Err(MergeFault::Missing(shard));
         }
     }

@@ -58,12 +58,12 @@ fn jobs_for(
 /// All shards at a cycle before which nothing happens any more, with what was sent to them taken up.
 fn stopped(
     alloc: Global,
-    standing: &ShardLayout,
+    layout: &ShardLayout,
     shards: Vec<Box<Shard>>,
     inbound: Vec<Vec<Vec<Message>>>,
 ) -> Result<Vec<Box<Shard>>, AllocError>
-    requires { MayStopAt standing.now shards.items inbound.items }
-    ensures { IfOk result (λ stopped. AreShardsAt standing.now stopped.items) }
+    requires { MayStopAt layout.now shards.items inbound.items }
+    ensures { IfOk result (λ stopped. AreShardsAt layout.now stopped.items) }
 {
     let mut inbound = inbound;
     let mut stopped = Vec::with_capacity(alloc, shards.len())?;
@@ -94,13 +94,13 @@ pub fn plan(sim: ShardedSim, alloc: Global, limit: Cycle) -> Result<Planned, All
         ..
     } = sim;
     if wake >= limit {
-        let standing = ShardLayout {
+        let layout = ShardLayout {
             machine,
             bounds,
             at: limit,
         };
-        let shards = stopped(alloc, &standing, shards, inbound)?;
-        return Ok(Planned::AtLimit(rejoined(alloc, standing, shards, number)?));
+        let shards = stopped(alloc, &layout, shards, inbound)?;
+        return Ok(Planned::AtLimit(rejoined(alloc, layout, shards, number)?));
     }
     let span = PhaseSpan {
         number,

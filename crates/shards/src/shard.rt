@@ -7,7 +7,7 @@ ghost use Rattle.links.specs.InFlight.{NoneArrivesBefore, with_sent};
 ghost use Rattle.units.specs.Units.{unit_count};
 ghost use Rattle.units.specs.Wakes.{AreLowered};
 ghost use Rattle.shards.specs.Lists.{AllEmpty, LowersAll, with_lists};
-ghost use Rattle.shards.specs.Shards.{ChangesOnlyMail, HasShardRun, HasRangeRun, HasSent, HaveSent, HoldWhatWasSent, IsOfMachine, IsRangeAsleep, IsSplit, LowersWords, Sleeps};
+ghost use Rattle.shards.specs.Shards.{ChangesOnlyMail, HasShardRun, HasRangeRun, HasSent, HaveSent, HoldWhatWasSent, IsOfMachine, IsRangeBetweenPhases, IsSplit, LowersWords, IsBetweenPhases};
 
 use crate::exchange::sort_by_shard;
 use links::flight::Links;
@@ -93,7 +93,7 @@ fn go_all(
     now: Cycle,
     until: Cycle,
 ) -> Result<(), AllocError>
-    requires asleep { IsRangeAsleep machine.now now range.old traffic.old.links }
+    requires between_phases { IsRangeBetweenPhases machine.now now range.old traffic.old.links }
     requires order { now < until }
     requires early { until ≤ 10 ^ 12 }
     requires travels { TravelsFor machine.now.config (until - now) }
@@ -136,7 +136,7 @@ impl Shard {
     /// Takes the units over a phase. Gives a cycle before which they send nothing more, and nothing that they sent
     /// arrives.
     pub(crate) fn go(&mut self, now: Cycle, until: Cycle) -> Result<Cycle, AllocError>
-        requires asleep { Sleeps (arc_value self.old.machine) now self.old }
+        requires between_phases { IsBetweenPhases (arc_value self.old.machine) now self.old }
         requires order { now < until }
         requires early { until ≤ 10 ^ 12 }
         requires travels { TravelsFor (arc_value self.old.machine).config (until - now) }

@@ -8,7 +8,7 @@ ghost use Rattle.units.specs.Runs.{links_at};
 ghost use Rattle.units.specs.Units.{unit_count};
 ghost use Rattle.shards.specs.Lists.{bound};
 ghost use Rattle.shards.specs.Phases.{sim_at};
-ghost use Rattle.shards.specs.Shards.{AreShards, AddsUnits, IsShard, IsSplit, Sleeps, links_among};
+ghost use Rattle.shards.specs.Shards.{AreShards, AddsUnits, IsShard, IsSplit, IsBetweenPhases, links_among};
 ghost use Rattle.shards.specs.Standing.{AreAwake, AreBroughtUp, AreShardsAt, ComesNext, HoldsFlight, flight_first};
 
 use crate::shard::Shard;
@@ -143,8 +143,8 @@ fn shard_of(
     requires flight { HoldsFlight snapshot.now }
     ensures shard { IfOk result (λ b.
         IsShard (arc_value snapshot.now.machine) bounds.now index b.value) }
-    ensures asleep { IfOk result (λ b.
-        Sleeps (arc_value snapshot.now.machine) snapshot.now.at b.value) }
+    ensures between_phases { IfOk result (λ b.
+        IsBetweenPhases (arc_value snapshot.now.machine) snapshot.now.at b.value) }
 {
     let first = bounds[index];
     let end = bounds[index + 1];
@@ -240,24 +240,24 @@ pub(crate) struct ShardLayout {
 /// links.
 fn join_shard(
     alloc: Global,
-    standing: &ShardLayout,
+    layout: &ShardLayout,
     shard: Box<Shard>,
     parts: &mut Vec<UnitState>,
     links: &mut Links,
 ) -> Result<(), AllocError>
-    requires asleep { ComesNext standing.now (length parts.old.items) shard.value }
-    requires stand { AreBroughtUp standing.now parts.old.items }
-    requires links { links.old ≡ flight_first standing.now (length parts.old.items) }
+    requires between_phases { ComesNext layout.now (length parts.old.items) shard.value }
+    requires stand { AreBroughtUp layout.now parts.old.items }
+    requires links { links.old ≡ flight_first layout.now (length parts.old.items) }
     ensures count { OnOk result (AddsUnits shard.value parts.old.items parts.new.items) }
-    ensures stand { OnOk result (AreBroughtUp standing.now parts.new.items) }
-    ensures links { OnOk result (links.new ≡ flight_first standing.now (length parts.new.items)) }
+    ensures stand { OnOk result (AreBroughtUp layout.now parts.new.items) }
+    ensures links { OnOk result (links.new ≡ flight_first layout.now (length parts.new.items)) }
 {
     let Shard { range, traffic, .. } = Box::into_inner(shard);
     let Traffic {
         links: own,
         mut lists,
     } = traffic;
-    bring_up(&standing.machine, &mut lists, range, standing.at, parts)?;
+    bring_up(&layout.machine, &mut lists, range, layout.at, parts)?;
     links.accept(&mut own.messages(alloc)?)?;
     Ok(())
 }
@@ -266,22 +266,22 @@ fn join_shard(
 /// empty links.
 fn join_all(
     alloc: Global,
-    standing: &ShardLayout,
+    layout: &ShardLayout,
     shards: Vec<Box<Shard>>,
     parts: &mut Vec<UnitState>,
     links: &mut Links,
 ) -> Result<(), AllocError>
-    requires shards { AreShardsAt standing.now shards.items }
+    requires shards { AreShardsAt layout.now shards.items }
     requires none { parts.old.items ≡ [] }
-    requires empty { links.old ≡ nothing_in_flight (arc_value standing.now.machine).config }
+    requires empty { links.old ≡ nothing_in_flight (arc_value layout.now.machine).config }
     ensures count { OnOk result (
-        length parts.new.items ≡ unit_count (arc_value standing.now.machine).config) }
-    ensures stand { OnOk result (AreBroughtUp standing.now parts.new.items) }
+        length parts.new.items ≡ unit_count (arc_value layout.now.machine).config) }
+    ensures stand { OnOk result (AreBroughtUp layout.now parts.new.items) }
     ensures links { OnOk result (
-        links.new ≡ links_at (arc_value standing.now.machine) standing.now.at) }
+        links.new ≡ links_at (arc_value layout.now.machine) layout.now.at) }
 {
     for shard in shards {
-        join_shard(alloc, standing, shard, parts, links)?;
+        join_shard(alloc, layout, shard, parts, links)?;
     }
     Ok(())
 }
@@ -289,19 +289,19 @@ fn join_all(
 /// The simulator that shards were split from, at the cycle where they stand.
 pub(crate) fn rejoined(
     alloc: Global,
-    standing: ShardLayout,
+    layout: ShardLayout,
     shards: Vec<Box<Shard>>,
     phase: u64,
 ) -> Result<Sim, AllocError>
-    requires shards { AreShardsAt standing shards.items }
-    requires counted { phase ≤ standing.at }
-    ensures { IfOk result (λ sim. sim ≡ sim_at (arc_value standing.machine) standing.at phase) }
+    requires shards { AreShardsAt layout shards.items }
+    requires counted { phase ≤ layout.at }
+    ensures { IfOk result (λ sim. sim ≡ sim_at (arc_value layout.machine) layout.at phase) }
 {
-    let count = standing.bounds[standing.bounds.len() - 1];
+    let count = layout.bounds[layout.bounds.len() - 1];
     let mut parts = Vec::with_capacity(alloc, count)?;
-    let mut links = Links::start(alloc, &standing.machine.config)?;
-    join_all(alloc, &standing, shards, &mut parts, &mut links)?;
-    let ShardLayout { machine, at, .. } = standing;
+    let mut links = Links::start(alloc, &layout.machine.config)?;
+    join_all(alloc, &layout, shards, &mut parts, &mut links)?;
+    let ShardLayout { machine, at, .. } = layout;
     Ok(Sim {
         machine,
         now: at,

@@ -42,7 +42,8 @@ all_banks_text commands channels =
     flat_map (λ channel. banks_text channel (channel_counts channel commands)) (below channels)
 
 -- the screen of a run, and below it the banks of each channel
-pub record IsBanksScreen (stats : RunStats) (commands : List IssuedCommand) (options : Options) (machine : Option Config) (text : List ℕ) : Type 0 where
+pub record IsBanksScreen (stats : RunStats) (commands : List IssuedCommand) (options : Options)
+    (machine : Option Config) (text : List ℕ) : Type 0 where
   pub above : List ℕ
   pub screen : IsScreen stats options machine above
   pub text_is : text ≡ above ++ all_banks_text commands (length stats.channels)

@@ -37,7 +37,8 @@ pub record IsLatencyRow (khz : Option ℕ) (requests : List RequestTimes) (row :
   pub row_is : row ≡ latency_row khz found
 
 -- those of each core, a row for each
-pub record AreLatencyRows (khz : Option ℕ) (requests : List RequestTimes) (cores : ℕ) (rows : List (List Number)) : Type 0 where
+pub record AreLatencyRows (khz : Option ℕ) (requests : List RequestTimes) (cores : ℕ) (rows : List (List Number))
+    : Type 0 where
   pub count : length rows ≡ cores
   pub each : (core : ℕ) → core < cores → IsLatencyRow khz (of_core core requests) (slice_index_or rows core [])
 
@@ -59,7 +60,8 @@ AreWaitLines requests options channels text =
 
 -- the read latencies of a run of so many cores and channels, below how many replies came, and the waits, below how many
 -- requests were served
-pub record AreRequests (requests : List RequestTimes) (options : Options) (cores channels : ℕ) (text : List ℕ) : Type 0 where
+pub record AreRequests (requests : List RequestTimes) (options : Options) (cores channels : ℕ) (text : List ℕ)
+    : Type 0 where
   pub latencies : List ℕ
   pub waits : List ℕ
   pub latencies_are : IsBelow (latencies_head (length (read_latencies requests)))

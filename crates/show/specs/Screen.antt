@@ -31,7 +31,8 @@ finished cores = count_by (λ core. is_some core.finish) cores
 -- the lines above the table of cores
 abbrev pub cores_head : ℕ → ℕ → List ℕ
 cores_head count finished =
-    codes "\nCores (" ++ decimal count ++ codes ", " ++ decimal finished ++ codes " finished): finish and latency in cycles, why no more was issued in % of the cycles\n"
+    codes "\nCores (" ++ decimal count ++ codes ", " ++ decimal finished
+    ++ codes " finished): finish and latency in cycles, why no more was issued in % of the cycles\n"
 
 -- the table of channels
 abbrev pub AreChannels : RunStats → Options → Option Config → List ℕ → Type 0

@@ -39,7 +39,8 @@ form_in column rows = fold (λ before row. form_at before (slice_get row column)
 pub record IsSummaryOf (rows : List (List Number)) (column : ℕ) (three : List Number) : Type 0 where
   pub found : Summary
   pub found_is : IsSummaryOfValues (known_in column rows) found
-  pub three_are : three ≡ map (λ halves. record { halves = halves; form = form_in column rows }) (found.least ∷ found.median ∷ found.greatest ∷ [])
+  pub three_are : three ≡ map (λ halves. record { halves = halves; form = form_in column rows })
+      (found.least ∷ found.median ∷ found.greatest ∷ [])
 
 -- the least, the median and the greatest numbers of each of the first so many columns
 pub record AreSummaries (rows : List (List Number)) (count : ℕ) (columns : List (List Number)) : Type 0 where

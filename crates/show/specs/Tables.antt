@@ -66,7 +66,8 @@ shows_each all rows = nat_le (length rows) 16 || all
 
 -- a table with these headings, of which `label` is that of the first column: then it has a line for each row, and else
 -- one for each row of their summary
-pub record IsTable (label : List ℕ) (headings : List (List ℕ)) (all : Bool) (rows : List (List Number)) (text : List ℕ) : Type 0 where
+pub record IsTable (label : List ℕ) (headings : List (List ℕ)) (all : Bool) (rows : List (List Number)) (text : List ℕ)
+    : Type 0 where
   pub each : shows_each all rows ≡ true → text ≡ lines_text label headings false rows
   pub three : shows_each all rows ≡ false
       → (summary : List (List Number)) × IsSummary rows summary × (text ≡ lines_text label headings true summary)

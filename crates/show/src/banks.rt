@@ -110,8 +110,8 @@ pub fn show_banks(
     options: Options,
     config: Option<&Config>,
 ) -> Result<String, AllocError>
-    ensures { IfOk result (λ text.
-        IsBanksScreen stats.now commands.now options (machine_in config.entry) (string_bytes text)) }
+    ensures { IfOk result (λ text. IsBanksScreen stats.now commands.now options
+        (machine_in config.entry) (string_bytes text)) }
 {
     let mut text = TextBuilder::new(alloc);
     put_screen(alloc, stats, options, config, &mut text);

@@ -23,13 +23,15 @@ use Rattle.sim_base.specs.declared.message.Access.{Access}
 use Rattle.sim_base.specs.declared.message.Message.{Message}
 use Rattle.sim_base.specs.declared.message.Unit.{Unit as MachineUnit}
 use Rattle.sim_base.specs.declared.message.Unit.TheVariants.{Core, Channel}
+use Rattle.sim_base.specs.declared.place.Field.TheVariants as field
 use Rattle.sim_base.specs.declared.trace.Entry.{Entry}
 use Rattle.sim_base.specs.declared.trace.Entry.TheVariants.{Plain, Read, Write}
 use Rattle.sim_base.proofs.Below.{flat_map_below_more, flat_map_below_same}
 use Rattle.sim_base.proofs.Each.{Each-all, Each-filter_map, Each-flat_map_below}
 use Rattle.sim_base.proofs.Arrived.{puts, by_age-puts, fold-puts}
 use Rattle.sim_base.proofs.Ordered.{Apart, Each-weaker, puts-swap, puts-append, Sorted-puts, filter-puts}
-use Rattle.sim_base.proofs.Added.{core_messages-push, channel_messages-push, digit_below}
+use Rattle.sim_base.proofs.Added.{core_messages-push, channel_messages-push}
+use Rattle.sim_base.proofs.Banks.{digit_below}
 
 -- each message is sent by this unit
 abbrev pub SentBy : Config → MachineUnit → List Message → Type 0
@@ -61,7 +63,7 @@ sender_credit s c k l =
 
 request_by : (s : Config) (core cycle entry : ℕ) (access : Access) (address : ℕ) → 0 < s.channels → sender s (request s core cycle entry access address).link ≡ Core core
 unfolding request place_of field_of
-request_by s core cycle entry access address h = sender_request s core _ (digit_below s s.fields _ h)
+request_by s core cycle entry access address h = sender_request s core _ (digit_below s field.Channel s.fields _ h)
 
 request_of-by : (s : Config) (core cycle : ℕ) → 0 < s.channels → (e : ℕ × Entry) → IfSome (request_of s core cycle e.0 e.1) (λ (m : Message). sender s m.link ≡ Core core)
 request_of-by s core cycle h (entry, Plain) = tt

@@ -10,8 +10,8 @@ use Rattle.sim_base.specs.Keys.{OverridesInRange, LatencyInRange}
 use Rattle.sim_base.specs.declared.overrides.Override.{Override}
 
 -- the links of a core and a channel are among those of the machine
-pub link_below : (cores channels c k : ℕ) → c < cores → k < channels → 3 * (c * channels + k) + 2 < 3 * cores * channels
-link_below cores channels c k h l =
+pub link_below : (cores channels c k d : ℕ) → c < cores → k < channels → d < 3 → 3 * (c * channels + k) + d < 3 * cores * channels
+link_below cores channels c k d h l m =
     let e : 3 * cores * channels ≡ 3 * (cores * channels) = mul_assoc 3 cores channels in
     let f : c * channels + k < channels * cores = mul-add-lt c channels k cores h l in
     omega (arith, mul_comm cores channels)

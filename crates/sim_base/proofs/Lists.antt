@@ -128,10 +128,10 @@ pub length-map_below : {X : Type 0} (f : ℕ → X) (n : ℕ) → length (map f 
 length-map_below f n = length-map (below n) f ∙ length-range_with_len 0 n
 
 -- none is found where none passes
-pub find-none : (p : ℕ → Bool) (a n : ℕ) → ((k : ℕ) → k < a + n → p k ≡ false) → find p (range_with_len a n) ≡ None
+pub find-none : (p : ℕ → Bool) (a n : ℕ) → ((k : ℕ) → a ≤ k → k < a + n → p k ≡ false) → find p (range_with_len a n) ≡ None
 find-none p a zero none = refl
 find-none p a (suc n) none =
-    cond-false (p a) (Some a) (find p (range_with_len (a + 1) n)) (none a (omega arith)) ∙ find-none p (a + 1) n (λ k l. none k (omega arith))
+    cond-false (p a) (Some a) (find p (range_with_len (a + 1) n)) (none a (omega arith) (omega arith)) ∙ find-none p (a + 1) n (λ k l m. none k (omega arith) (omega arith))
 
 -- what is not there is none
 pub none-is : {X : Type 0} (o : Option X) → is_some o ≡ false → o ≡ None

@@ -1,6 +1,6 @@
 -- Messages by arrival and then by link: the order stays where some are left out, and does not depend on the order in
 -- which messages of different links are put in.
-use Rattle.std.proofs.Common.{Bool, true, false, cond, eqb, ◌≡◌, List, [], ◌∷◌, ◌++◌, refl, sym, ap, ◌∙◌, arith}
+use Rattle.std.proofs.Common.{Bool, true, false, cond, eqb, ◌&&◌, ◌≡◌, List, [], ◌∷◌, ◌++◌, refl, sym, ap, ◌∙◌, arith}
 use Rattle.std.specs.Prelude.{filter}
 use Rattle.std.specs.List.{AllByRecursion as Each}
 use Rattle.std.proofs.lemmas.Bool.{cond_both, cond-true, cond-false}
@@ -21,9 +21,6 @@ before_no_later m n y h k = grind (arith, nat_tests)
 
 pub not_before_sooner : (m n y : Message) → is_before m n ≡ true → is_before y n ≡ false → is_before y m ≡ false
 not_before_sooner m n y h k = grind (arith, nat_tests)
-
-before_other : (a b : Message) → eqb a.link b.link ≡ false → is_before a b ≡ false → is_before b a ≡ true
-before_other a b h k = grind (arith, nat_tests)
 
 pub Each-weaker : {X : Type 0} (P Q : X → Type 0) → ((x : X) → P x → Q x) → (xs : List X) → Each P xs → Each Q xs
 Each-weaker P Q f [] h = tt
@@ -89,25 +86,36 @@ put-before m n (x ∷ xs) e =
     (λ g. cond-true _ _ _ g ∙ sym (cond-false _ _ _ (before_asym m n e) ∙ ap (λ y. m ∷ y) (cond-false _ _ _ f)))
     (λ g. cond-false _ _ _ g ∙ ap (λ y. x ∷ y) (put-before m n xs e) ∙ sym (cond-false _ _ _ f)))
 
--- messages of different links can be put in in either order
-pub put-put : (m n : Message) (ns : List Message) → eqb m.link n.link ≡ false → put m (put n ns) ≡ put n (put m ns)
-put-put m n ns h = by_case (is_before m n) refl
+-- two messages with one arrival and one link
+abbrev pub is_tie : Message → Message → Bool
+is_tie a b = eqb a.arrival b.arrival && eqb a.link b.link
+
+before_back : (a b : Message) → is_tie a b ≡ false → is_before a b ≡ false → is_before b a ≡ true
+before_back a b h k = grind (arith, nat_tests)
+
+pub put-put : (m n : Message) (ns : List Message) → is_tie m n ≡ false → put m (put n ns) ≡ put n (put m ns)
+put-put m n ns h = by (is_before m n) refl
   where
-    by_case : (b : Bool) → is_before m n ≡ b → put m (put n ns) ≡ put n (put m ns)
-    by_case true e = put-before m n ns e
-    by_case false e = sym (put-before n m ns (before_other m n h e))
+    by : (b : Bool) → is_before m n ≡ b → put m (put n ns) ≡ put n (put m ns)
+    by true e = put-before m n ns e
+    by false e = sym (put-before n m ns (before_back m n h e))
+
+-- a message can be put in before others that it does not tie with, or after them
+pub puts-put : (m : Message) (acc ys : List Message) → Each (λ (y : Message). is_tie m y ≡ false) ys → puts (put m acc) ys ≡ put m (puts acc ys)
+puts-put m acc [] h = refl
+puts-put m acc (y ∷ ys) h = ap (λ x. puts x ys) (sym (put-put m y acc h.0)) ∙ puts-put m (put y acc) ys h.1
 
 -- no message of the one list is of a link of one in the other
 abbrev pub Apart : List Message → List Message → Type 0
 Apart xs ys = Each (λ (x : Message). Each (λ (y : Message). eqb x.link y.link ≡ false) ys) xs
 
-puts-put : (m : Message) (acc ys : List Message) → Each (λ (y : Message). eqb m.link y.link ≡ false) ys → puts (put m acc) ys ≡ put m (puts acc ys)
-puts-put m acc [] h = refl
-puts-put m acc (y ∷ ys) h = ap (λ x. puts x ys) (sym (put-put m y acc h.0)) ∙ puts-put m (put y acc) ys h.1
+-- messages of different links do not tie
+links-no_tie : (m n : Message) → eqb m.link n.link ≡ false → is_tie m n ≡ false
+links-no_tie m n h = grind (arith, nat_tests)
 
 pub puts-swap : (acc xs ys : List Message) → Apart xs ys → puts (puts acc xs) ys ≡ puts (puts acc ys) xs
 puts-swap acc [] ys h = refl
-puts-swap acc (x ∷ xs) ys h = puts-swap (put x acc) xs ys h.1 ∙ ap (λ z. puts z xs) (puts-put x acc ys h.0)
+puts-swap acc (x ∷ xs) ys h = puts-swap (put x acc) xs ys h.1 ∙ ap (λ z. puts z xs) (puts-put x acc ys (Each-weaker _ (λ (y : Message). is_tie x y ≡ false) (λ y e. links-no_tie x y e) ys h.0))
 
 pub puts-append : (acc xs ys : List Message) → puts acc (xs ++ ys) ≡ puts (puts acc xs) ys
 puts-append acc [] ys = refl

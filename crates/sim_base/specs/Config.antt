@@ -1,6 +1,7 @@
 -- What follows from a configuration.
---     request_link, reply_link, credit_link, latency s link      the three links of a core and a channel, and how long a message travels on one
---     refresh_slack      how late a refresh may be
+--     request_link, reply_link, credit_link      the three links of a core and a channel
+--     latency s link      how many cycles a message travels on a link
+--     refresh_slack s      how many cycles late a refresh of a rank may be
 use Rattle.std.specs.Prelude.{ℕ, ◌+◌, ◌*◌, ◌%◌, ◌==◌, find, option_map, unwrap_or, if◌then◌else◌}
 use Rattle.sim_base.specs.Relations.{refresh_slack_of}
 use Rattle.sim_base.specs.declared.config.Config.{Config}

@@ -1,6 +1,6 @@
 -- The fields of an address.
 --     is_field a b      the same field
---     FieldsInOrder fields      each field stands once in the order
+--     FieldsInOrder fields      each field stands once in the order, and that of the rank at most once
 use Rattle.std.specs.Prelude.{◌≡◌, ◌≤◌, Bool, true, false, List, count_by}
 use Rattle.sim_base.specs.declared.place.Field.{Field}
 use Rattle.sim_base.specs.declared.place.Field.TheVariants.{Channel, Column, Rank, Group, Bank, Row}

@@ -80,7 +80,15 @@ request s core cycle entry access address =
     record {
       link = link;
       arrival = arrival;
-      payload = payload.Request (record { core = core; entry = entry; access = access; address = address; place = place; arrival = arrival; link = link });
+      payload = payload.Request (record {
+        core = core;
+        entry = entry;
+        access = access;
+        address = address;
+        place = place;
+        arrival = arrival;
+        link = link;
+      });
     }
 
 -- the request of an entry that issues in a cycle, if it has one

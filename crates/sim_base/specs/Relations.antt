@@ -3,10 +3,11 @@
 --     refresh_slack_of t ranks      how late a rank's refresh may be
 --     DistancesFit t      relations 1 to 5: the distances between commands agree with one another
 --     RefreshFits t ranks      relation 6: a refresh is over before the next one is due
---     CreditsFit cores read_credits write_credits      relation 7: a channel has a queue place for each credit
---     LinksExist cores channels overrides, LinksDiffer overrides      relations 8 and 9: each override is for a link of the machine, no two for the same one
---     RanksHaveField ranks fields      relation 10: an address says which rank it lies in
---     DrainFits cores write_credits write_high write_low      relations 11 and 12: a drain has a beginning above its end, which can be reached
+--     CreditsFit cores read_credits write_credits      relation 7: a channel has at most 8192 queue places
+--     LinksExist cores channels overrides      relation 8: each override is for a link of the machine
+--     LinksDiffer overrides      relation 9: no two overrides are for the same link
+--     RanksHaveField ranks fields      relation 10: where there are several ranks, an address has a field for the rank
+--     DrainFits cores write_credits write_high write_low      relations 11 and 12: a drain can begin, and ends lower
 use Rattle.std.specs.Prelude.{◌≡◌, ℕ, ◌+◌, ◌*◌, ◌-◌, ◌<◌, ◌≤◌, ◌==◌, max, map, count_by, List, All}
 use Rattle.std.specs.List.{IsDistinct}
 use Rattle.sim_base.specs.Fields.{is_field}
@@ -49,8 +50,8 @@ LinksDiffer overrides = IsDistinct (λ a b. a == b) (map (λ o. o.link) override
 abbrev pub RanksHaveField : ℕ → List Field → Type 0
 RanksHaveField ranks fields = 1 < ranks → count_by (is_field Rank) fields ≡ 1
 
--- where a channel ever drains its writes, it begins at more of them than it ends at, and the cores' credits allow that
--- many
+-- unless write_high and write_low are 0, a drain begins at more writes than it ends at; and the cores' write credits
+-- allow as many writes as it begins at
 pub record DrainFits (cores write_credits write_high write_low : ℕ) : Type 0 where
   pub ends_below : 0 < write_high + write_low → write_low < write_high
   pub reachable : write_high ≤ cores * write_credits

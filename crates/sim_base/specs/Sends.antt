@@ -1,6 +1,6 @@
 -- What is sent in one cycle, and by whom.
 --     sender s link      the unit that sends on a link
---     core_sends s traces history step core      the requests of a core in the cycle after a history, in which this is done
+--     core_sends s traces history step core      a core's requests in the cycle after a history, in which this is done
 --     channel_sends s history step channel      the replies and credits of a channel in that cycle
 --     sends s traces history step      both, of all units
 use Rattle.std.specs.Prelude.{ℕ, ◌+◌, ◌/◌, ◌%◌, ◌==◌, List, ◌++◌, length, flat_map, if◌then◌else◌}

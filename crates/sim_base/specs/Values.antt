@@ -1,5 +1,5 @@
 -- What a configuration says: its numbers, its fields and its overrides, apart from what is proved of them.
---     Values      one of these for each key
+--     Values      what the keys of a configuration say
 --     values_of s      those of a configuration
 --     values_from number fields overrides ends_drained      those of a configuration whose number at each key is this
 --     IsRelated v      each relation between them holds

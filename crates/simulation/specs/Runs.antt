@@ -81,7 +81,8 @@ abbrev pub PassesTests : List ℕ → List (List ℕ) → ℕ → ℕ → List (
 PassesTests config texts cycles workers traces = input_of config texts cycles workers ≡ Ok traces
 
 -- the machine is what the document states, and the traces are what the texts mean, which pass all tests
-pub record IsInput (config : List ℕ) (texts : List (List ℕ)) (cycles workers : ℕ) (machine : Config) (traces : List (List Entry)) : Type 0 where
+pub record IsInput (config : List ℕ) (texts : List (List ℕ)) (cycles workers : ℕ) (machine : Config)
+    (traces : List (List Entry)) : Type 0 where
   pub configured : document_of config ≡ Ok (values_of machine)
   pub traces_are : traces_of 0 texts ≡ Ok traces
   pub read : input_of config texts cycles workers ≡ Ok traces
@@ -102,9 +103,11 @@ IsRefusal config texts cycles workers fault =
     ⊎ ((fault ≡ WorkerStart) × (2 ≤ workers) × IsOk (input_of config texts cycles workers))
 
 -- The configuration is what the document states, the traces are what the texts mean, and the outcome is that of the
--- machine that advances every core, link and channel one cycle at a time, up to the limit or until all is done: its
--- commands, if their table is asked for, what it counted, and the state before the next cycle.
-pub record IsRunOf (config : List ℕ) (texts : List (List ℕ)) (cycles workers : ℕ) (tables : Tables) (outcome : RunOutcome) : Type 0 where
+-- machine that advances every core, link and channel one cycle at a time, up to the limit or, where the configuration
+-- ends runs drained, until all is done: its commands and its requests, if their tables are asked for, what it counted,
+-- and the state before the next cycle.
+pub record IsRunOf (config : List ℕ) (texts : List (List ℕ)) (cycles workers : ℕ) (tables : Tables)
+    (outcome : RunOutcome) : Type 0 where
   pub machine : Config
   pub traces : List (List Entry)
   pub configured : document_of config ≡ Ok (values_of machine)
@@ -113,7 +116,8 @@ pub record IsRunOf (config : List ℕ) (texts : List (List ℕ)) (cycles workers
 
 -- The outcome is that of a run, and a law holds of its machine, its traces and its cycles, whatever tables were asked
 -- for.
-pub record HoldsOfRun (config : List ℕ) (texts : List (List ℕ)) (cycles workers : ℕ) (tables : Tables) (law : Config → List (List Entry) → ℕ → Type 0) (outcome : RunOutcome) : Type 0 where
+pub record HoldsOfRun (config : List ℕ) (texts : List (List ℕ)) (cycles workers : ℕ) (tables : Tables)
+    (law : Config → List (List Entry) → ℕ → Type 0) (outcome : RunOutcome) : Type 0 where
   pub run_is : IsRunOf config texts cycles workers tables outcome
   pub holds : law run_is.machine run_is.traces outcome.stats.cycles
 

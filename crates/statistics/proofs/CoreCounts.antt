@@ -150,6 +150,32 @@ issue_cycle-push steps core_step entry h =
     ∙ e
     ∙ sym (issue_cycle-prefix_len steps entry)
 
+-- a test that all numbers below n pass, and n does not
+prefix_below : (p : ℕ → Bool) (n : ℕ) → ((k : ℕ) → k < n → p k ≡ true) → p n ≡ false → (m a : ℕ) → a + m ≡ n → prefix_len p (range_with_len a (suc m)) ≡ m
+prefix_below p n pass stop zero a e =
+    let here : a ≡ n = omega (arith, e) in
+    ap (λ b. cond b (1 + 0) 0) (ap p here ∙ stop)
+prefix_below p n pass stop (suc m) a e =
+    let more : 1 + m ≡ suc m = omega arith in
+    ap₂ (λ b k. cond b (1 + k) 0) (pass a (omega (arith, e))) (prefix_below p n pass stop m (a + 1) (omega (arith, e))) ∙ more
+
+-- an entry that is issued in a cycle, and not before
+pub issue_cycle-last : (steps : List CoreStep) (core_step : CoreStep) (entry : ℕ) → issued_before steps ≤ entry → entry < issued_before (steps ++ core_step ∷ [])
+    → issue_cycle (steps ++ core_step ∷ []) entry ≡ length steps
+unfolding is_unissued_after
+issue_cycle-last steps core_step entry from until =
+    let all = steps ++ core_step ∷ [] in
+    let n = length steps in
+    let p = is_unissued_after all entry in
+    let long : length all ≡ suc n = length-push_suc steps core_step in
+    let pass : (k : ℕ) → k < n → p k ≡ true = λ k l.
+    ap (λ x. leb (issued_before x) entry) (take-push steps core_step (k + 1) (omega (arith, l))) ∙ le-leb _ _ (omega (arith, from, issued_before-take-le steps (k + 1))) in
+    let whole : take (n + 1) all ≡ all = ap (λ k. take k all) (add-one n ∙ sym long) ∙ take-length all in
+    let stop : p n ≡ false = ap (λ x. leb (issued_before x) entry) whole ∙ lt-leb _ _ until in
+    issue_cycle-prefix_len all entry
+    ∙ ap (λ k. prefix_len p (below k)) long
+    ∙ prefix_below p n pass stop n 0 (zero-add n)
+
 wait-push : (steps : List CoreStep) (core_step : CoreStep) (arrival : ℕ) → arrival < suc (length steps) → (o : Option ℕ)
     → IfSome o (λ entry. arrival < length (steps ++ core_step ∷ []) → entry < issued_before (take arrival (steps ++ core_step ∷ [])))
     → wait_of (steps ++ core_step ∷ []) arrival o ≡ wait_of steps arrival o

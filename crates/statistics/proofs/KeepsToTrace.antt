@@ -22,7 +22,7 @@ use Rattle.statistics.proofs.Lists.{find_below_more}
 use Rattle.statistics.proofs.RunSteps.{steps_of_core-next}
 
 -- a core retires no more than it issued
-pub retires-le : (s : Config) (trace : List Entry) (steps : List CoreStep) (inbox : List Message) → retires s trace steps inbox ≤ issued_before steps - retired_before steps
+pub retires-le : (s : Config) (trace : List Entry) (steps : List CoreStep) (inbox : List Message) → retires s trace steps inbox ≤ min s.width (issued_before steps - retired_before steps)
 unfolding retires done_from
 retires-le s trace steps inbox =
     let first = retired_before steps in
@@ -103,7 +103,7 @@ unfolding step
 KeepsToTrace-step s core trace steps inbox h =
     let row = (step s core trace steps inbox).0 in
     let issued : issued_before steps + row.issued ≤ length trace = issues-le s core trace steps inbox h.issued in
-    let retired : row.retired ≤ issued_before steps - retired_before steps = retires-le s trace steps inbox in
+    let retired : row.retired ≤ issued_before steps - retired_before steps = omega (arith, retires-le s trace steps inbox) in
     record {
       issued = omega (arith, issued_before-push steps row);
       retired = omega (arith, issued_before-push steps row, retired_before-push steps row);

@@ -156,7 +156,7 @@ cycle_without_command drained queued has_due drains =
       draining = option_map (λ count. one_if drains) drained;
     }
 
--- the statistics of a command of this kind, which is a row hit or not, without its cycle
+-- the statistics of a command of this kind, which is counted as a hit or not, without its cycle
 abbrev pub one_command : Kind → Bool → ChannelStats
 one_command k hit =
     record channel_none {

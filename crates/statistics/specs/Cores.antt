@@ -91,7 +91,10 @@ unfoldable pub core_cycle_with : List Entry → List CoreStep → CoreStep → S
 core_cycle_with trace steps done why arrived =
     let reads_issued = count_by is_read (issued_in trace steps done) in
     let writes_issued = count_by is_write (issued_in trace steps done) in
-    record (unanswered_cycle done why reads_issued writes_issued (finish_in trace steps done)) { replies = length arrived; read_latency = waited steps arrived }
+    record (unanswered_cycle done why reads_issued writes_issued (finish_in trace steps done)) {
+      replies = length arrived;
+      read_latency = waited steps arrived;
+    }
 
 -- the statistics of the cycle after these steps, in which the core does this
 unfoldable pub core_cycle : Config → ℕ → List Entry → List CoreStep → List Message → CoreStep → CoreStats

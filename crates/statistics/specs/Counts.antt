@@ -1,5 +1,4 @@
--- Counts of one cycle, and of two stretches.
---     one_if b      one, where a test holds
+-- Counts of two stretches of cycles.
 --     sum_of_counts a b      the sum of two counts, of which one or both may not be there
 use Rattle.std.specs.Prelude.{ℕ, ◌+◌, Option, Some, None}
 

@@ -1,7 +1,7 @@
 -- What a run leaves.
 --     usual_tables      the tables that are asked for where nothing else is said
 --     if_asked asked table      a table, where it is asked for
---     outcome_after tables s traces history      the commands and the requests that a history holds, its statistics, and the state that it leaves
+--     outcome_after tables s traces history      what a history leaves, with the tables that are asked for
 --     outcome_of tables s traces cycles      the same, for the run of this many cycles
 --     outcome_within tables s traces limit      the same, for the run up to a limit
 use Rattle.std.specs.Prelude.{ℕ, Bool, true, false, List, Option, Some, None, if◌then◌else◌}
@@ -23,8 +23,8 @@ usual_tables = record { commands = true; stats = true; last = true; requests = f
 abbrev pub if_asked : {A : Type 0} → Bool → A → Option A
 if_asked asked table = if asked then Some table else None
 
--- the commands of a history and the requests that they serve, if their table is asked for, its statistics, and the
--- state that it leaves
+-- the commands of a history and the requests that they serve, each if their table is asked for, its statistics, and
+-- the state that it leaves
 unfoldable pub outcome_after : Tables → Config → List (List Entry) → List MachineStep → RunOutcome
 outcome_after tables s traces history =
     record {
@@ -41,6 +41,6 @@ unfoldable pub outcome_of : Tables → Config → List (List Entry) → ℕ → 
 outcome_of tables s traces cycles = outcome_after tables s traces (run s traces cycles)
 
 -- What the run of a machine over its traces leaves, with the tables that are asked for: it has as many cycles as the
--- limit, or, where the configuration ends it drained, as many as it takes until all is done.
+-- limit, or fewer, where the configuration ends it drained and all is done earlier.
 abbrev pub outcome_within : Tables → Config → List (List Entry) → ℕ → RunOutcome
 outcome_within tables s traces limit = outcome_of tables s traces (cycles_run s traces limit)

@@ -1,6 +1,6 @@
 -- What a run leaves, for the whole machine.
 --     stats_of s traces history      the statistics of each unit
---     core_last, channel_last      the state of one unit
+--     core_final, channel_final      the state of one unit
 --     final_of s traces history      the state before the cycle after a history
 use Rattle.std.specs.Prelude.{ℕ, List, length, map, filter_map, option_map, Option}
 use Rattle.sim_base.specs.declared.config.Config.{Config}
@@ -19,7 +19,7 @@ use Rattle.sim_base.specs.declared.trace.Entry.{Entry}
 use Rattle.sim_base.specs.declared.message.Access.TheVariants as access
 use Rattle.statistics.specs.Channels.{channel_stats}
 use Rattle.statistics.specs.Cores.{core_stats}
-use Rattle.statistics.specs.Values.{RunStats, LastCore, LastChannel, LastState}
+use Rattle.statistics.specs.Values.{RunStats, FinalCore, FinalChannel, FinalView}
 use Rattle.statistics.specs.declared.channels.ChannelStats.{ChannelStats}
 use Rattle.statistics.specs.declared.cores.CoreStats.{CoreStats}
 use Rattle.statistics.specs.declared.final_state.Credits.{Credits}
@@ -47,12 +47,19 @@ stats_of s traces history =
 -- the credits that a core holds for a channel after these steps
 unfoldable pub credits_of : Config → ℕ → List Entry → List CoreStep → List Message → ℕ → Credits
 credits_of s core trace steps inbox channel =
-    record { read = credits_left s core trace steps inbox access.Read channel; write = credits_left s core trace steps inbox access.Write channel }
+    record {
+      read = credits_left s core trace steps inbox access.Read channel;
+      write = credits_left s core trace steps inbox access.Write channel;
+    }
 
 -- the state of a core after these steps
-unfoldable pub core_last : Config → ℕ → List Entry → List CoreStep → List Message → LastCore
-core_last s core trace steps inbox =
-    record { issued = issued_before steps; retired = retired_before steps; credits = map (credits_of s core trace steps inbox) (below s.channels) }
+unfoldable pub core_final : Config → ℕ → List Entry → List CoreStep → List Message → FinalCore
+core_final s core trace steps inbox =
+    record {
+      issued = issued_before steps;
+      retired = retired_before steps;
+      credits = map (credits_of s core trace steps inbox) (below s.channels);
+    }
 
 -- an open row with its bank
 abbrev pub opened : BankId → ℕ → OpenRow
@@ -67,25 +74,29 @@ unfoldable pub open_rows_left : Config → ℕ → List (Option Command) → Lis
 open_rows_left s channel steps = filter_map (open_row_of_bank (issued_commands channel steps)) (banks s)
 
 -- the state of a channel after these steps
-unfoldable pub channel_last : Config → ℕ → List (Option Command) → List Message → LastChannel
-channel_last s channel steps inbox =
-    record { due = due_left s channel steps; open_rows = open_rows_left s channel steps; queue = queue_left channel steps inbox }
+unfoldable pub channel_final : Config → ℕ → List (Option Command) → List Message → FinalChannel
+channel_final s channel steps inbox =
+    record {
+      due = due_left s channel steps;
+      open_rows = open_rows_left s channel steps;
+      queue = queue_left channel steps inbox;
+    }
 
 -- the state in which a core of the machine is left
-unfoldable pub last_of_core : Config → List (List Entry) → List MachineStep → ℕ → LastCore
-last_of_core s traces history core =
-    core_last s core (trace_of traces core) (steps_of_core core history) (inbox s traces history (Core core))
+unfoldable pub final_of_core : Config → List (List Entry) → List MachineStep → ℕ → FinalCore
+final_of_core s traces history core =
+    core_final s core (trace_of traces core) (steps_of_core core history) (inbox s traces history (Core core))
 
 -- the state in which a channel of the machine is left
-unfoldable pub last_of_channel : Config → List (List Entry) → List MachineStep → ℕ → LastChannel
-last_of_channel s traces history channel =
-    channel_last s channel (steps_of_channel channel history) (inbox s traces history (Channel channel))
+unfoldable pub final_of_channel : Config → List (List Entry) → List MachineStep → ℕ → FinalChannel
+final_of_channel s traces history channel =
+    channel_final s channel (steps_of_channel channel history) (inbox s traces history (Channel channel))
 
 -- the state before the cycle after a history
-unfoldable pub final_of : Config → List (List Entry) → List MachineStep → LastState
+unfoldable pub final_of : Config → List (List Entry) → List MachineStep → FinalView
 final_of s traces history =
     record {
-      cores = map (last_of_core s traces history) (below s.cores);
-      channels = map (last_of_channel s traces history) (below s.channels);
+      cores = map (final_of_core s traces history) (below s.cores);
+      channels = map (final_of_channel s traces history) (below s.channels);
       in_flight = in_flight s traces history;
     }

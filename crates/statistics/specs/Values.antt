@@ -1,6 +1,6 @@
 -- What contracts see of the types of this crate that hold lists.
 --     RunStats      of Stats
---     LastCore, LastChannel, LastState      of CoreState, ChannelState and FinalState
+--     FinalCore, FinalChannel, FinalView      of CoreState, ChannelState and FinalState
 --     RunOutcome      of Outcome
 use Rattle.std.specs.Prelude.{ℕ, List, Option}
 use Rattle.sim_base.specs.declared.command.IssuedCommand.{IssuedCommand}
@@ -20,30 +20,30 @@ pub record RunStats : Type 0 where
   pub channels : List ChannelStats
 
 -- what a core issued and retired, and the credits that it holds for each channel
-pub record LastCore : Type 0 where
+pub record FinalCore : Type 0 where
   pub issued : ℕ
   pub retired : ℕ
   pub credits : List Credits
 
 -- the refreshes that are due by rank, the rows that are open by rank, group and bank, and the queue by age
-pub record LastChannel : Type 0 where
+pub record FinalChannel : Type 0 where
   pub due : List ℕ
   pub open_rows : List OpenRow
   pub queue : List Request
 
 -- the state of each core and each channel, by number, and the messages that are still to arrive, by arrival and then by
 -- link
-pub record LastState : Type 0 where
-  pub cores : List LastCore
-  pub channels : List LastChannel
+pub record FinalView : Type 0 where
+  pub cores : List FinalCore
+  pub channels : List FinalChannel
   pub in_flight : List Message
 
--- the tables that were asked for; the commands, and the requests, if their table was; the statistics and the state at the
--- end of a run; and how many ranks a channel has
+-- the tables that were asked for; the commands and the requests, each if their table was; the statistics and the state
+-- at the end of a run; and how many ranks a channel has
 pub record RunOutcome : Type 0 where
   pub tables : Tables
   pub commands : Option (List IssuedCommand)
   pub requests : Option (List RequestTimes)
   pub stats : RunStats
-  pub last : LastState
+  pub last : FinalView
   pub ranks : ℕ

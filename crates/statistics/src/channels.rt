@@ -147,10 +147,10 @@ impl ChannelStats {
     #[inline(always)]
     pub fn add_cycles(&mut self, cycles: u64, queued: usize, refreshing: bool, draining: bool)
         requires some { 0 < cycles }
-        requires fits { ChannelFits (channel_joined self.old
-            (channel_times cycles (cycle_without_command self.old.draining queued refreshing draining))) }
-        ensures { self.new ≡ channel_joined self.old
-            (channel_times cycles (cycle_without_command self.old.draining queued refreshing draining)) }
+        requires fits { ChannelFits (channel_joined self.old (channel_times cycles
+            (cycle_without_command self.old.draining queued refreshing draining))) }
+        ensures { self.new ≡ channel_joined self.old (channel_times cycles
+            (cycle_without_command self.old.draining queued refreshing draining)) }
     {
         self.queued += u128::from(cycles) * queued as u128;
         self.queued_max = self.queued_max.max(queued as u64);

@@ -30,9 +30,9 @@ pub struct CoreState {
 }
 
 impl Model for CoreState {
-    ghost use Rattle.statistics.specs.Values.{LastCore};
+    ghost use Rattle.statistics.specs.Values.{FinalCore};
 
-    ghost Value = { LastCore };
+    ghost Value = { FinalCore };
 
     ghost view = { λ c. record {
       issued = c.issued;
@@ -54,9 +54,9 @@ pub struct ChannelState {
 }
 
 impl Model for ChannelState {
-    ghost use Rattle.statistics.specs.Values.{LastChannel};
+    ghost use Rattle.statistics.specs.Values.{FinalChannel};
 
-    ghost Value = { LastChannel };
+    ghost Value = { FinalChannel };
 
     ghost view = { λ c. record {
       due = c.due.items;
@@ -78,9 +78,9 @@ pub struct FinalState {
 }
 
 impl Model for FinalState {
-    ghost use Rattle.statistics.specs.Values.{LastState};
+    ghost use Rattle.statistics.specs.Values.{FinalView};
 
-    ghost Value = { LastState };
+    ghost Value = { FinalView };
 
     ghost view = { λ f. record {
       cores = f.cores.items;

@@ -1,6 +1,7 @@
 -- How long a command holds a later one back, for each pair of kinds and each relation of their banks.
 --     hold t earlier later relation      the distance, where a rule binds two such commands
---     holds_between t earlier later, holds_after t earlier, hold_table t      distances and what is bound, as a table by relation, by later and by earlier kind
+--     holds_between t earlier later      the distance for each relation, and whether a rule binds two such commands
+--     holds_after t earlier, hold_table t      these for each later kind, and for each earlier and each later kind
 --     place_of_kind, place_of_relation      where a kind and a relation stand in it
 use Rattle.std.specs.Prelude.{ℕ, List, [], ◌∷◌, Option, Some, None, if◌then◌else◌}
 use Rattle.sim_base.specs.declared.timing.Timing.{Timing}
@@ -20,8 +21,10 @@ hold t earlier later relation = if is_bound t earlier later relation then Some (
 abbrev pub holds_between : Timing → Kind → Kind → HoldsBetween
 holds_between t earlier later =
     record {
-      cycles = gap t earlier later SameBank ∷ gap t earlier later SameGroup ∷ gap t earlier later OtherGroup ∷ gap t earlier later OtherRank ∷ [];
-      bound = is_bound t earlier later SameBank ∷ is_bound t earlier later SameGroup ∷ is_bound t earlier later OtherGroup ∷ is_bound t earlier later OtherRank ∷ [];
+      cycles = gap t earlier later SameBank ∷ gap t earlier later SameGroup
+          ∷ gap t earlier later OtherGroup ∷ gap t earlier later OtherRank ∷ [];
+      bound = is_bound t earlier later SameBank ∷ is_bound t earlier later SameGroup
+          ∷ is_bound t earlier later OtherGroup ∷ is_bound t earlier later OtherRank ∷ [];
     }
 
 -- for each later kind, the distance for each relation to an earlier kind, and whether a rule binds two such commands

@@ -1,5 +1,5 @@
 -- How the banks of a command relate to those of another, of which only the rank and the bank matter.
---     relation_to a rank bank      how the banks of a command relate to those of one in a rank, which names this bank, if it names one
+--     relation_to a rank bank      that relation, where the other is in this rank and names this bank or none
 use Rattle.std.specs.Prelude.{ℕ, ◌==◌, Option, if◌then◌else◌}
 use Rattle.sim_base.specs.declared.place.BankId.{BankId}
 use Rattle.sim_base.specs.declared.command.Command.{Command}

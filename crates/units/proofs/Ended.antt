@@ -19,8 +19,8 @@ use Rattle.units.proofs.SpanLaws.ChannelsOn.{channels-end_alike}
 use Rattle.sim_base.specs.declared.config.Config.{Config}
 use Rattle.sim_base.specs.declared.trace.Entry.{Entry}
 use Rattle.sim_base.specs.History.{below, trace_of}
-use Rattle.statistics.specs.Runs.{credits_of, core_last, open_row_of_bank, open_rows_left, channel_last, last_of_core, last_of_channel}
-use Rattle.statistics.specs.Values.{LastCore, LastChannel, LastState, RunStats, RunOutcome}
+use Rattle.statistics.specs.Runs.{credits_of, core_final, open_row_of_bank, open_rows_left, channel_final, final_of_core, final_of_channel}
+use Rattle.statistics.specs.Values.{FinalCore, FinalChannel, FinalView, RunStats, RunOutcome}
 use Rattle.request_table.specs.declared.times.RequestTimes.{RequestTimes}
 use Rattle.statistics.specs.declared.tables.Tables.{Tables}
 use Rattle.laws.proofs.Legal.{length-channel_steps_of}
@@ -51,28 +51,28 @@ placed f n xs e h =
 
 -- the state of a core, as it keeps it
 pub core_left_is : (s : Config) (traces : List (List Entry)) (core now : ℕ) (view : CoreView) → IsCoreAt s traces core now view
-    → ◌≡◌ {A = LastCore} (record { issued = view.stats.issued; retired = view.stats.retired; credits = view.credits }) (last_of_core s traces (run s traces now) core)
-unfolding core_last core_stats
+    → ◌≡◌ {A = FinalCore} (record { issued = view.stats.issued; retired = view.stats.retired; credits = view.credits }) (final_of_core s traces (run s traces now) core)
+unfolding core_final core_stats
 core_left_is s traces core now view h =
     let steps = core_steps_of s traces now core in
     let trace = trace_of traces core in
     let mail = mail_before s traces now (unit.Core core) now in
-    ap₂ {C = LastCore} (λ (x : CoreStats) credits. record { issued = x.issued; retired = x.retired; credits = credits }) h.stats
+    ap₂ {C = FinalCore} (λ (x : CoreStats) credits. record { issued = x.issued; retired = x.retired; credits = credits }) h.stats
     (placed (credits_of s core trace steps mail) s.channels view.credits h.channels h.credits)
     ∙ (cores-end_alike s traces now core).1
 
 -- the state of a channel, by what it keeps
 pub channel_left_is : (s : Config) (traces : List (List Entry)) (channel now : ℕ)
-    → ◌≡◌ {A = LastChannel} (record {
+    → ◌≡◌ {A = FinalChannel} (record {
       due = map (λ rank. due s rank (history_of s traces now channel) now) (below s.ranks);
       open_rows = filter_map (open_row_of_bank (history_of s traces now channel)) (banks s);
       queue = queued_requests (history_of s traces now channel) (mail_before s traces now (unit.Channel channel) now) (length (channel_steps_of s traces now channel));
     })
-    (last_of_channel s traces (run s traces now) channel)
-unfolding channel_last due_left open_rows_left queue_left
+    (final_of_channel s traces (run s traces now) channel)
+unfolding channel_final due_left open_rows_left queue_left
 channel_left_is s traces channel now =
     let h = history_of s traces now channel in
-    ap {B = LastChannel} (λ n. record {
+    ap {B = FinalChannel} (λ n. record {
       due = map (λ rank. due s rank h n) (below s.ranks);
       open_rows = filter_map (open_row_of_bank h) (banks s);
       queue = queued_requests h (mail_before s traces now (unit.Channel channel) now) (length (channel_steps_of s traces now channel));
@@ -82,14 +82,14 @@ channel_left_is s traces channel now =
 
 -- three lists that are the same leave the same
 pub left_of : {due due' : List ℕ} → {rows rows' : List OpenRow} → {queue queue' : List Request} → due ≡ due' → rows ≡ rows' → queue ≡ queue'
-    → ◌≡◌ {A = LastChannel} (record { due = due; open_rows = rows; queue = queue }) (record { due = due'; open_rows = rows'; queue = queue' })
+    → ◌≡◌ {A = FinalChannel} (record { due = due; open_rows = rows; queue = queue }) (record { due = due'; open_rows = rows'; queue = queue' })
 left_of e f g = cc
 
-pub state_of : {cores cores' : List LastCore} → {channels channels' : List LastChannel} → {flight flight' : List Message} → cores ≡ cores' → channels ≡ channels' → flight ≡ flight'
-    → ◌≡◌ {A = LastState} (record { cores = cores; channels = channels; in_flight = flight }) (record { cores = cores'; channels = channels'; in_flight = flight' })
+pub state_of : {cores cores' : List FinalCore} → {channels channels' : List FinalChannel} → {flight flight' : List Message} → cores ≡ cores' → channels ≡ channels' → flight ≡ flight'
+    → ◌≡◌ {A = FinalView} (record { cores = cores; channels = channels; in_flight = flight }) (record { cores = cores'; channels = channels'; in_flight = flight' })
 state_of e f g = cc
 
-pub outcome_is : {rows rows' : Option (List IssuedCommand)} → {requests requests' : Option (List RequestTimes)} → {stats stats' : RunStats} → {last last' : LastState} → (tables : Tables) (ranks : ℕ)
+pub outcome_is : {rows rows' : Option (List IssuedCommand)} → {requests requests' : Option (List RequestTimes)} → {stats stats' : RunStats} → {last last' : FinalView} → (tables : Tables) (ranks : ℕ)
     → rows ≡ rows' → requests ≡ requests' → stats ≡ stats' → last ≡ last'
     → ◌≡◌ {A = RunOutcome} (record { tables = tables; commands = rows; requests = requests; stats = stats; last = last; ranks = ranks })
     (record { tables = tables; commands = rows'; requests = requests'; stats = stats'; last = last'; ranks = ranks })

@@ -17,7 +17,7 @@ use Rattle.units.specs.SpanLaws.Mail.{mail_in}
 use Rattle.units.proofs.SpanLaws.Flights.{due-left}
 use Rattle.units.specs.Flight.{is_at_places}
 use Rattle.units.specs.Units.{unit_at}
-use Rattle.units.specs.Wakes.{Sleeper, Waits, HoldsInbox, units_from, links_after}
+use Rattle.units.specs.Wakes.{UnitWithWord, Waits, HoldsInbox, units_from, links_after}
 use Rattle.units.proofs.Sharing.{at-places, not_there}
 use Rattle.units.specs.declared.machine.Machine.{Machine}
 use Rattle.units.proofs.Waiting.{untouched-none, none-taken}
@@ -117,11 +117,11 @@ taken-links s first here until k old links after e a =
     ∙ ap {B = InFlight} (λ z. record old { messages = z }) (after-more s here until first k old.messages)
 
 -- a unit that is left alone has nothing in them that is due
-pub left-alone : (machine : Machine) (first here there until k : ℕ) (old : InFlight) (sleeper : Sleeper) → here ≤ until → HoldsInbox machine here there until (unit_at machine.config (first + k)) old
-    → until ≤ sleeper.wake → Waits machine (unit_at machine.config (first + k)) here there sleeper → links_after machine.config here until first k old ≡ links_after machine.config here until first (suc k) old
-left-alone machine first here there until k old sleeper l holds_inbox w h =
+pub left-alone : (machine : Machine) (first here there until k : ℕ) (old : InFlight) (unit_with_word : UnitWithWord) → here ≤ until → HoldsInbox machine here there until (unit_at machine.config (first + k)) old
+    → until ≤ unit_with_word.wake → Waits machine (unit_at machine.config (first + k)) here there unit_with_word → links_after machine.config here until first k old ≡ links_after machine.config here until first (suc k) old
+left-alone machine first here there until k old unit_with_word l holds_inbox w h =
     let u = unit_at machine.config (first + k) in
     let left = left_after machine.config.channels here until (units_from machine.config first k) old.messages in
     let none : filter (is_due machine.config.channels u here until) left ≡ [] =
-    (left-holds_inbox machine first here there until k old (links_after machine.config here until first k old) holds_inbox refl).due here until (omega arith) ∙ untouched-none machine u here there until sleeper w h in
+    (left-holds_inbox machine first here there until k old (links_after machine.config here until first k old) holds_inbox refl).due here until (omega arith) ∙ untouched-none machine u here there until unit_with_word w h in
     ap {B = InFlight} (λ z. record old { messages = z }) (sym (none-taken (is_due machine.config.channels u here until) left none) ∙ after-more machine.config here until first k old.messages)

@@ -16,8 +16,8 @@ use Rattle.sim_base.specs.declared.trace.Entry.{Entry}
 use Rattle.sim_base.proofs.Arrived.{puts, by_age-puts, fold-puts}
 use Rattle.sim_base.proofs.Below.{flat_map_below_more, flat_map_below_same}
 use Rattle.sim_base.proofs.Each.{Each-all, Each-flat_map_below, Each-last}
-use Rattle.sim_base.proofs.Grows.{SentBy, of_core-by, of_channel-by, apart}
-use Rattle.sim_base.proofs.Ordered.{Apart, Sorted, Each-weaker, puts-swap, puts-append, Sorted-puts, filter-puts, filter-by_age}
+use Rattle.sim_base.proofs.Grows.{SentBy, of_core-by, of_channel-by, grow}
+use Rattle.sim_base.proofs.Ordered.{Sorted, Each-weaker, Sorted-puts, filter-puts, filter-by_age}
 use Rattle.sim_base.proofs.Spans.{length_run}
 use Rattle.sim_base.proofs.Lists.{filter-each}
 use Rattle.units.specs.SpanLaws.Units.{Exists, sent_of}
@@ -99,24 +99,6 @@ places-differ s i j l e =
     let f : i ≡ j = sym (place-at s i) ∙ ap (place_of_unit s) e ∙ place-at s j in
     omega (arith, f, l)
 
--- what units send can be put in before or after what they sent
-grow : (s : Config) (f g : ℕ → List Message) (acc : List Message) (n : ℕ)
-    → ((i : ℕ) → i < n → SentBy s (unit_at s i) (f i)) → ((i : ℕ) → i < n → SentBy s (unit_at s i) (g i))
-    → puts acc (flat_map (λ i. f i ++ g i) (below n)) ≡ puts (puts acc (flat_map f (below n))) (flat_map g (below n))
-grow s f g acc zero hf hg = refl
-grow s f g acc (suc n) hf hg =
-    let old = flat_map f (below n) in
-    let new = flat_map g (below n) in
-    let far : Apart new (f n) =
-    Each-flat_map_below _ g n (λ i l. apart s (unit_at s i) (unit_at s n) (places-differ s i n l) (g i) (f n) (hg i (omega arith)) (hf n (omega arith))) in
-    ap (puts acc) (flat_map_below_more (λ i. f i ++ g i) n)
-    ∙ puts-append acc (flat_map (λ i. f i ++ g i) (below n)) (f n ++ g n)
-    ∙ puts-append _ (f n) (g n)
-    ∙ ap (λ z. puts (puts z (f n)) (g n)) (grow s f g acc n (λ i l. hf i (omega arith)) (λ i l. hg i (omega arith)))
-    ∙ ap (λ z. puts z (g n)) (puts-swap (puts acc old) new (f n) far)
-    ∙ sym (puts-append (puts (puts acc old) (f n)) new (g n))
-    ∙ ap₂ (λ y z. puts y z) (sym (puts-append acc old (f n)) ∙ ap (puts acc) (sym (flat_map_below_more f n))) (sym (flat_map_below_more g n))
-
 -- all messages of a run, with those that are sent in a span put in last
 all-grow : (machine : Machine) (from until : ℕ) → from ≤ until
     → by_age (messages machine.config machine.traces.items (run_of machine until)) ≡ puts (by_age (messages machine.config machine.traces.items (run_of machine from))) (flat_map (fresh machine from until) (below (unit_count machine.config)))
@@ -124,7 +106,7 @@ all-grow machine from until k =
     let n = unit_count machine.config in
     by_age-puts (messages machine.config machine.traces.items (run_of machine until))
     ∙ ap (puts []) (sym (all-sent machine.config machine.traces.items until) ∙ flat_map_below_same _ (λ i. sent_at machine from (unit_at machine.config i) ++ fresh machine from until i) n (λ i l. fresh-grows machine from until i l k))
-    ∙ grow machine.config (λ i. sent_at machine from (unit_at machine.config i)) (fresh machine from until) [] n
+    ∙ grow machine.config (unit_at machine.config) (places-differ machine.config) (λ i. sent_at machine from (unit_at machine.config i)) (fresh machine from until) [] n
     (λ i l. sent-by machine.config machine.traces.items from (unit_at machine.config i) (exists-at machine.config i l)) (λ i l. fresh-by machine from until i l k)
     ∙ ap (λ z. puts z (flat_map (fresh machine from until) (below n))) (ap (puts []) (all-sent machine.config machine.traces.items from) ∙ sym (by_age-puts (messages machine.config machine.traces.items (run_of machine from))))
 

@@ -24,7 +24,7 @@ use Rattle.units.specs.declared.part.UnitState.{UnitState}
 use Rattle.units.specs.Units.{unit_at, unit_count}
 use Rattle.units.proofs.Due.{left-all, left-none, left-more, exists-at}
 use Rattle.units.proofs.Joining.{all-sent, fresh-is, join-flight}
-use Rattle.units.specs.Wakes.{IsAsleep, IsStill, sent_in, HasGoneOn, AreTimedUnits, Sleeper, Waits, sleeper, sleeper_at}
+use Rattle.units.specs.Wakes.{AreBetweenPhases, IsStill, sent_in, HasGoneOn, AreTimedUnits, UnitWithWord, Waits, unit_with_word, unit_with_word_at, WaitAll}
 use Rattle.units.specs.declared.timed_unit.TimedUnit.{TimedUnit}
 use Rattle.units.proofs.Sharing.{among-all}
 use Rattle.units.specs.declared.machine.Machine.{Machine}
@@ -44,9 +44,9 @@ sent_in-none machine now = flat_map-none (fresh machine now now) (unit_count mac
 
 -- A unit waits, and may be left alone up to a cycle.
 pub record RestsTo (machine : Machine) (now until : ℕ) (u : MachineUnit) : Type 0 where
-  pub sleeper : Sleeper
-  pub wakes : until ≤ sleeper.wake
-  pub waits : Waits machine u now now sleeper
+  pub unit_with_word : UnitWithWord
+  pub wakes : until ≤ unit_with_word.wake
+  pub waits : Waits machine u now now unit_with_word
 
 -- all units of a machine wait, and may be left alone up to a cycle
 abbrev pub AllRest : Machine → ℕ → ℕ → Type 0
@@ -60,18 +60,18 @@ still-messages machine now then h =
     ∙ all-sent machine.config machine.traces.items now
 
 -- a unit that waits waits on, up to its word, where nothing is sent
-pub still-waits : (machine : Machine) (u : MachineUnit) (now then : ℕ) (sleeper : Sleeper) → Waits machine u now now sleeper → IsStill machine now then → now ≤ then → then ≤ sleeper.wake
-    → Waits machine u then then sleeper
-still-waits machine u now then sleeper h still l w =
+pub still-waits : (machine : Machine) (u : MachineUnit) (now then : ℕ) (unit_with_word : UnitWithWord) → Waits machine u now now unit_with_word → IsStill machine now then → now ≤ then → then ≤ unit_with_word.wake
+    → Waits machine u then then unit_with_word
+still-waits machine u now then unit_with_word h still l w =
     record {
       behind = omega (arith, h.behind, l);
       ahead = w;
       stands = h.stands;
       may = record {
         silent = h.may.silent;
-        none = mail-sent machine.config machine.traces.items sleeper.at sleeper.wake u then
-            ∙ ap (λ ms. by_age (arriving sleeper.at sleeper.wake (filter (is_to machine.config u) ms))) (still-messages machine now then still)
-            ∙ sym (mail-sent machine.config machine.traces.items sleeper.at sleeper.wake u now)
+        none = mail-sent machine.config machine.traces.items unit_with_word.at unit_with_word.wake u then
+            ∙ ap (λ ms. by_age (arriving unit_with_word.at unit_with_word.wake (filter (is_to machine.config u) ms))) (still-messages machine now then still)
+            ∙ sym (mail-sent machine.config machine.traces.items unit_with_word.at unit_with_word.wake u now)
             ∙ h.may.none;
       };
     }
@@ -84,14 +84,14 @@ sleep-span machine now then until h l m t =
     flying : List Message
     flying = flight_at machine now
 
-    has_run : (k : ℕ) (less : k < unit_count machine.config) → HasGoneOn machine (unit_at machine.config k) now now then (h k less).sleeper []
-    has_run k less = untouched machine (unit_at machine.config k) now now then (h k less).sleeper (exists-at machine.config k less) l (known-phase machine now then (unit_at machine.config k) l t) (omega (arith, m, (h k less).wakes)) (h k less).waits
+    has_run : (k : ℕ) (less : k < unit_count machine.config) → HasGoneOn machine (unit_at machine.config k) now now then (h k less).unit_with_word []
+    has_run k less = untouched machine (unit_at machine.config k) now now then (h k less).unit_with_word (exists-at machine.config k less) l (known-phase machine now then (unit_at machine.config k) l t) (omega (arith, m, (h k less).wakes)) (h k less).waits
 
     sends-none : (k : ℕ) → k < unit_count machine.config → fresh machine now then k ≡ []
     sends-none k less = fresh-is machine now then k [] (has_run k less).sent
 
     none-comes : (k : ℕ) → k < unit_count machine.config → filter (is_due machine.config.channels (unit_at machine.config k) now then) flying ≡ []
-    none-comes k less = due-flight machine.config machine.traces.items now now then (unit_at machine.config k) (omega arith) ∙ untouched-none machine (unit_at machine.config k) now now then (h k less).sleeper (omega (arith, m, (h k less).wakes)) (h k less).waits
+    none-comes k less = due-flight machine.config machine.traces.items now now then (unit_at machine.config k) (omega arith) ∙ untouched-none machine (unit_at machine.config k) now now then (h k less).unit_with_word (omega (arith, m, (h k less).wakes)) (h k less).waits
 
     none-left : (k : ℕ) → k ≤ unit_count machine.config → left machine.config now then k flying ≡ flying
     none-left zero less = left-none machine.config now then flying
@@ -115,7 +115,7 @@ sleep-cycles machine now until h (suc n) m =
     let one : (now + suc n) - (now + n) ≡ 1 = omega arith in
     let rest : AllRest machine (now + n) until = λ k less.
     let r = h k less in
-    record { sleeper = r.sleeper; wakes = r.wakes; waits = still-waits machine (unit_at machine.config k) now (now + n) r.sleeper r.waits before (omega arith) (omega (arith, m, r.wakes)) } in
+    record { unit_with_word = r.unit_with_word; wakes = r.wakes; waits = still-waits machine (unit_at machine.config k) now (now + n) r.unit_with_word r.waits before (omega arith) (omega (arith, m, r.wakes)) } in
     let then = sleep-span machine (now + n) (now + suc n) until rest (omega arith) m (subst (TravelsFor machine.config) (sym one) (travels machine.config)) in
     record { sent = λ k less. then.sent k less ∙ before.sent k less; flight = then.flight ∙ before.flight }
 
@@ -124,19 +124,24 @@ sleep-on machine now then h l =
     let e : now + (then - now) ≡ then = omega (arith, l) in
     subst (IsStill machine now) e (sleep-cycles machine now then h (then - now) (omega (arith, l)))
 
--- the cycle where units stand is not past any word
-pub asleep-until : (machine : Machine) (first now : ℕ) (units : List TimedUnit) (words : List ℕ) (links : InFlight) → IsAsleep machine first now units words links → All (λ w. now ≤ w) words
-asleep-until machine first now units words links h k d less =
-    let i : k < length units = omega (arith, less, h.words_count) in
+-- where the units at some places wait at a cycle, that cycle is not past any word
+pub waiting-words : (machine : Machine) (first here there : ℕ) (units : List TimedUnit) (words : List ℕ) → length words ≡ length units → WaitAll machine first here there units words
+    → All (λ w. here ≤ w) words
+waiting-words machine first here there units words count wait k d less =
+    let i : k < length units = omega (arith, less, count) in
     let e : get_or words k 0 ≡ get_or words k d = get_or_default words k 0 d less in
-    subst (λ w. now ≤ w) e (h.wait k (some-of units (omega (arith, i))) i).ahead
+    subst (λ w. here ≤ w) e (wait k (some-of units (omega (arith, i))) i).ahead
+
+-- the cycle where units stand is not past any word
+pub between_phases-until : (machine : Machine) (first now : ℕ) (units : List TimedUnit) (words : List ℕ) (links : InFlight) → AreBetweenPhases machine first now units words links → All (λ w. now ≤ w) words
+between_phases-until machine first now units words links h = waiting-words machine first now now units words h.words_count h.wait
 
 none-first_of : (k : ℕ) → 0 + k ≡ k
 none-first_of k = omega arith
 
 -- all units stand where the machine does, and are asked in the next phase
 pub awake-sim : (machine : Machine) (now phase : ℕ) (parts : List UnitState) (links : InFlight) (units : List TimedUnit) (words : List ℕ) → IsSim machine now phase parts links
-    → AreTimedUnits now parts units → words ≡ replicate (length parts) now → IsAsleep machine 0 now units words links
+    → AreTimedUnits now parts units → words ≡ replicate (length parts) now → AreBetweenPhases machine 0 now units words links
 awake-sim machine now phase parts links units words h e f =
     record {
       early = h.early;
@@ -147,8 +152,8 @@ awake-sim machine now phase parts links units words h e f =
           let p = some-part parts (omega (arith, less)) in
           let word : get_or words k 0 ≡ now = ap (λ z. get_or z k 0) f ∙ get_or-replicate (length parts) k now 0 less in
           let stands = subst (IsPart machine (unit_at machine.config k) now) (sym (e.parts_are k d p less)) (h.stand k (get_or parts k p) (slice_get-get_or parts k p less)) in
-          subst (λ i. Waits machine (unit_at machine.config i) now now (sleeper_at units words k d)) (sym (none-first_of k))
-          (awake-waits machine (unit_at machine.config k) now (sleeper (get_or units k d) (get_or words k 0)) stands (e.stand k d less) word);
+          subst (λ i. Waits machine (unit_at machine.config i) now now (unit_with_word_at units words k d)) (sym (none-first_of k))
+          (awake-waits machine (unit_at machine.config k) now (unit_with_word (get_or units k d) (get_or words k 0)) stands (e.stand k d less) word);
       flight = h.flight
           ∙ ap {B = InFlight} (λ z. record { channels = machine.config.channels; messages = z }) (sym (among-all machine.config machine.traces.items now))
           ∙ ap {B = InFlight} (λ n. record { channels = machine.config.channels; messages = among machine.config 0 n (flight_at machine now) }) (sym (none-first_of (length units) ∙ e.count ∙ h.count));

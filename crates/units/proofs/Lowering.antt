@@ -21,7 +21,7 @@ use Rattle.units.specs.Flight.{fresh, goes_among, among}
 use Rattle.units.specs.Parts.{IsPart}
 use Rattle.links.specs.Rings.{later_of}
 use Rattle.units.specs.Units.{unit_at, unit_count}
-use Rattle.units.specs.Wakes.{Sleeper, Waits, WaitAll, AreLowered, sleeper_at, sent_in}
+use Rattle.units.specs.Wakes.{UnitWithWord, Waits, WaitAll, AreLowered, unit_with_word_at, sent_in}
 use Rattle.units.specs.declared.timed_unit.TimedUnit.{TimedUnit}
 use Rattle.units.proofs.Filters.{filter-within}
 use Rattle.units.proofs.Joining.{join-flight, fresh-late}
@@ -38,17 +38,17 @@ sent-late machine now until l t =
     (Each-flat_map_below (λ (m : Message). until ≤ m.arrival) (fresh machine now until) (unit_count machine.config) (λ place k. fresh-late machine now until place k l t))
 
 -- a unit waits on, once its word is lowered to what was sent to it in the phase
-pub lowered-waits : (machine : Machine) (u : MachineUnit) (now until : ℕ) (sleeper after : Sleeper) → now ≤ until → TravelsFor machine.config (until - now)
-    → Waits machine u until now sleeper → after.part ≡ sleeper.part → after.at ≡ sleeper.at → until ≤ after.wake → after.wake ≤ sleeper.wake
+pub lowered-waits : (machine : Machine) (u : MachineUnit) (now until : ℕ) (unit_with_word after : UnitWithWord) → now ≤ until → TravelsFor machine.config (until - now)
+    → Waits machine u until now unit_with_word → after.part ≡ unit_with_word.part → after.at ≡ unit_with_word.at → until ≤ after.wake → after.wake ≤ unit_with_word.wake
     → filter (is_due machine.config.channels u until after.wake) (sent_in machine now until) ≡ [] → Waits machine u until until after
-lowered-waits machine u now until sleeper after l t h part at since within none-new =
+lowered-waits machine u now until unit_with_word after l t h part at since within none-new =
     let old = flight_at machine now in
     let new = sent_in machine now until in
     let w = after.wake in
     let p = is_due machine.config.channels u until w in
-    let none-old : filter p old ≡ [] = due-flight machine.config machine.traces.items now until w u l ∙ none-part machine.config machine.traces.items now sleeper.at sleeper.wake until w u h.behind within h.may.none in
-    let none-before : mail_in machine.config machine.traces.items until u sleeper.at until ≡ [] =
-    known-mail machine now sleeper.at until u (known-phase machine now until u l t) ∙ none-part machine.config machine.traces.items now sleeper.at sleeper.wake sleeper.at until u (omega arith) h.ahead h.may.none in
+    let none-old : filter p old ≡ [] = due-flight machine.config machine.traces.items now until w u l ∙ none-part machine.config machine.traces.items now unit_with_word.at unit_with_word.wake until w u h.behind within h.may.none in
+    let none-before : mail_in machine.config machine.traces.items until u unit_with_word.at until ≡ [] =
+    known-mail machine now unit_with_word.at until u (known-phase machine now until u l t) ∙ none-part machine.config machine.traces.items now unit_with_word.at unit_with_word.wake unit_with_word.at until u (omega arith) h.ahead h.may.none in
     let none-late : filter p (later_of until old) ≡ [] = filter-filter p (λ m. not (ltb m.arrival until)) old ∙ ap (later_of until) none-old in
     let none : filter p (flight_at machine until) ≡ [] =
     ap (filter p) (sym (join-flight machine now until l t) ∙ fold-puts (later_of until old) new)
@@ -57,11 +57,11 @@ lowered-waits machine u now until sleeper after l t h part at since within none-
     record {
       behind = omega (arith, at, h.behind);
       ahead = since;
-      stands = subst (λ n. IsPart machine u n after.part) (sym at) (subst (IsPart machine u sleeper.at) (sym part) h.stands);
+      stands = subst (λ n. IsPart machine u n after.part) (sym at) (subst (IsPart machine u unit_with_word.at) (sym part) h.stands);
       may = record {
-        silent = subst (λ n. IsSilent machine.config machine.traces.items n w u) (sym at) (silent-sooner machine.config machine.traces.items sleeper.at w sleeper.wake u within h.may.silent);
+        silent = subst (λ n. IsSilent machine.config machine.traces.items n w u) (sym at) (silent-sooner machine.config machine.traces.items unit_with_word.at w unit_with_word.wake u within h.may.silent);
         none = ap (λ n. mail n w) at
-            ∙ none-first machine.config machine.traces.items until sleeper.at until w u h.behind since none-before
+            ∙ none-first machine.config machine.traces.items until unit_with_word.at until w u h.behind since none-before
             ∙ sym (due-flight machine.config machine.traces.items until until w u (omega arith))
             ∙ none;
       };
@@ -86,7 +86,7 @@ lowered-wait_all machine first now until units old new sent l t words between ar
     let since = low.since until late-sent k i b.ahead in
     let none : filter (is_due machine.config.channels u until (get_or new k 0)) sent ≡ [] =
     none-due machine.config.channels until (get_or new k 0) (get_or new k 0) u sent (λ j e m to. low.arrivals k j e i m to) (omega arith) in
-    lowered-waits machine u now until (sleeper_at units old k d) (sleeper_at units new k d) l t b refl refl since (low.less k i)
+    lowered-waits machine u now until (unit_with_word_at units old k d) (unit_with_word_at units new k d) l t b refl refl since (low.less k i)
     (sym (due-among machine.config first (first + length units) until (get_or new k 0) (first + k) all (omega arith) (omega (arith, less)))
     ∙ ap (filter (is_due machine.config.channels u until (get_or new k 0))) (sym are)
     ∙ none)

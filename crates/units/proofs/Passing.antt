@@ -8,7 +8,7 @@ use Rattle.links.specs.InFlight.{InFlight}
 use Rattle.units.specs.SpanLaws.Units.{Exists}
 use Rattle.units.specs.Flight.{fresh, sent_by}
 use Rattle.units.specs.Units.{unit_at, unit_count}
-use Rattle.units.specs.Wakes.{AddsWhatItSent, HoldInboxes, HasGoneOn, WaitAll, Waits, links_after, sleeper, sleeper_at}
+use Rattle.units.specs.Wakes.{AddsWhatItSent, HoldInboxes, HasGoneOn, WaitAll, Waits, links_after, unit_with_word, unit_with_word_at}
 use Rattle.units.specs.declared.timed_unit.TimedUnit.{TimedUnit}
 use Rattle.units.proofs.Due.{exists-at}
 use Rattle.units.proofs.Going.{after-none, left-alone}
@@ -24,8 +24,8 @@ pub record AreTaken (machine : Machine) (first count here there until : ℕ) (un
   pub units_count : length units ≡ count
   pub words_count : length words ≡ count
   pub within : place ≤ count
-  pub has_run : (k : ℕ) (d : TimedUnit) → k < place → Waits machine (unit_at machine.config (first + k)) until there (sleeper_at units words k d)
-  pub wait : (k : ℕ) (d : TimedUnit) → place ≤ k → k < length units → Waits machine (unit_at machine.config (first + k)) here there (sleeper_at units words k d)
+  pub has_run : (k : ℕ) (d : TimedUnit) → k < place → Waits machine (unit_at machine.config (first + k)) until there (unit_with_word_at units words k d)
+  pub wait : (k : ℕ) (d : TimedUnit) → place ≤ k → k < length units → Waits machine (unit_at machine.config (first + k)) here there (unit_with_word_at units words k d)
   pub sent_so_far : sent ≡ sent_by machine here until first place
   pub links_so_far : links ≡ links_after machine.config here until first place old
 
@@ -64,7 +64,7 @@ passed-one machine first count here there until units words sent old links place
           ∙ sym (append-nil (sent_by machine here until first place))
           ∙ ap (λ z. sent_by machine here until first place ++ z) (sym (fresh-is machine here until (first + place) [] (on some).sent))
           ∙ sym (sent-more machine here until first place);
-      links_so_far = h.links_so_far ∙ left-alone machine first here there until place old (sleeper_at units words place some) l (holds_inbox place inside) w (h.wait place some (omega arith) there_is);
+      links_so_far = h.links_so_far ∙ left-alone machine first here there until place old (unit_with_word_at units words place some) l (holds_inbox place inside) w (h.wait place some (omega arith) there_is);
     }
   where
     there_is : place < length units
@@ -76,14 +76,14 @@ passed-one machine first count here there until units words sent old links place
     some : TimedUnit
     some = some-of units (omega (arith, there_is))
 
-    on : (d : TimedUnit) → HasGoneOn machine (unit_at machine.config (first + place)) here there until (sleeper_at units words place d) []
-    on d = untouched machine (unit_at machine.config (first + place)) here there until (sleeper_at units words place d) exists l (holds_inbox place inside).known w (h.wait place d (omega arith) there_is)
+    on : (d : TimedUnit) → HasGoneOn machine (unit_at machine.config (first + place)) here there until (unit_with_word_at units words place d) []
+    on d = untouched machine (unit_at machine.config (first + place)) here there until (unit_with_word_at units words place d) exists l (holds_inbox place inside).known w (h.wait place d (omega arith) there_is)
 
-    goes : (k : ℕ) (d : TimedUnit) → k ≤ place → (k < place) ⊎ (place ≤ k) → Waits machine (unit_at machine.config (first + k)) until there (sleeper_at units words k d)
+    goes : (k : ℕ) (d : TimedUnit) → k ≤ place → (k < place) ⊎ (place ≤ k) → Waits machine (unit_at machine.config (first + k)) until there (unit_with_word_at units words k d)
     goes k d m (inl e) = h.has_run k d e
     goes k d m (inr e) =
         let same : place ≡ k = omega (arith, m, e) in
-        subst (λ i. Waits machine (unit_at machine.config (first + i)) until there (sleeper_at units words i d)) same (on d).waits
+        subst (λ i. Waits machine (unit_at machine.config (first + i)) until there (unit_with_word_at units words i d)) same (on d).waits
 
 passed-some : (machine : Machine) (first count here there until : ℕ) (units : List TimedUnit) (words : List ℕ) (sent : List Message) (old links : InFlight) (from : ℕ) → here ≤ until
     → HoldInboxes machine first count here there until old → AreTaken machine first count here there until units words sent old links from → (n : ℕ) → from + n ≤ count
@@ -107,7 +107,7 @@ passed-over machine first count here there until units words sent old links from
 
 -- a unit that is woken
 pub taken-one : (machine : Machine) (first count here there until : ℕ) (units : List TimedUnit) (words : List ℕ) (sent holds : List Message) (old links after : InFlight) (place : ℕ) (unit : TimedUnit) (wake : ℕ)
-    → place < length units → AddsWhatItSent machine (unit_at machine.config (first + place)) here there until (sleeper unit wake) sent holds → after ≡ links_after machine.config here until first (suc place) old
+    → place < length units → AddsWhatItSent machine (unit_at machine.config (first + place)) here there until (unit_with_word unit wake) sent holds → after ≡ links_after machine.config here until first (suc place) old
     → AreTaken machine first count here there until units words sent old links place
     → AreTaken machine first count here there until (set units place unit) (set words place wake) holds old after (place + 1)
 taken-one machine first count here there until units words sent holds old links after place unit wake inside adds out h =
@@ -119,7 +119,7 @@ taken-one machine first count here there until units words sent holds old links 
       has_run = λ k d m. goes k d (omega (arith, m)) (cases_lt k place);
       wait = λ k d m less.
           let other : k ≢ place = omega (arith, m) in
-          subst (Waits machine (unit_at machine.config (first + k)) here there) (sym (ap₂ sleeper (get_or-set_other units place k unit d other) (get_or-set_other words place k wake 0 other)))
+          subst (Waits machine (unit_at machine.config (first + k)) here there) (sym (ap₂ unit_with_word (get_or-set_other units place k unit d other) (get_or-set_other words place k wake 0 other)))
           (h.wait k d (omega (arith, m)) (omega (arith, less, length-set units place unit)));
       sent_so_far = adds.added
           ∙ ap (λ z. z ++ adds.messages) h.sent_so_far
@@ -129,18 +129,18 @@ taken-one machine first count here there until units words sent holds old links 
       links_so_far = out ∙ ap {B = InFlight} (λ k. links_after machine.config here until first k old) (sym (add-one place));
     }
   where
-    goes : (k : ℕ) (d : TimedUnit) → k ≤ place → (k < place) ⊎ (place ≤ k) → Waits machine (unit_at machine.config (first + k)) until there (sleeper_at (set units place unit) (set words place wake) k d)
+    goes : (k : ℕ) (d : TimedUnit) → k ≤ place → (k < place) ⊎ (place ≤ k) → Waits machine (unit_at machine.config (first + k)) until there (unit_with_word_at (set units place unit) (set words place wake) k d)
     goes k d m (inl e) =
         let other : k ≢ place = omega (arith, e) in
         subst (Waits machine (unit_at machine.config (first + k)) until there)
-        (sym (ap₂ sleeper (get_or-set_other units place k unit d other) (get_or-set_other words place k wake 0 other)))
+        (sym (ap₂ unit_with_word (get_or-set_other units place k unit d other) (get_or-set_other words place k wake 0 other)))
         (h.has_run k d e)
     goes k d m (inr e) =
         let same : k ≡ place = omega (arith, m, e) in
         let within : place < length words = omega (arith, inside, h.units_count, h.words_count) in
-        subst (λ j. Waits machine (unit_at machine.config (first + j)) until there (sleeper_at (set units place unit) (set words place wake) k d)) (sym same)
+        subst (λ j. Waits machine (unit_at machine.config (first + j)) until there (unit_with_word_at (set units place unit) (set words place wake) k d)) (sym same)
         (subst (Waits machine (unit_at machine.config (first + place)) until there)
-        (sym (ap₂ sleeper (get_or-set_at units place k unit d same inside) (get_or-set_at words place k wake 0 same within)))
+        (sym (ap₂ unit_with_word (get_or-set_at units place k unit d same inside) (get_or-set_at words place k wake 0 same within)))
         adds.has_run.waits)
 
 -- when all are taken

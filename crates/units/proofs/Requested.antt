@@ -19,13 +19,13 @@ use Rattle.sim_base.proofs.Spans.{length_run}
 use Rattle.command_table.specs.Tables.{rows_in}
 use Rattle.command_table.proofs.Rising.{by_cycle-same}
 use Rattle.channel_step.specs.Channels.{KeepsServed}
-use Rattle.channel_step.specs.Past.{requests_of as requests_in}
+use Rattle.channel_step.specs.Past.{carried_requests}
 use Rattle.laws.specs.Commands.{channel_steps_of}
 use Rattle.laws.proofs.Legal.{length-channel_steps_of}
 use Rattle.request_table.specs.Served.{served_in, served_requests}
 use Rattle.request_table.specs.declared.served_requests.ServedRequest.{ServedRequest}
 use Rattle.request_table.specs.Requests.{arrival_of, requests_of}
-use Rattle.request_table.specs.Tables.{AreServed, served_at, by_cycle, times_of, times_by_cycle}
+use Rattle.request_table.specs.Tables.{AreServedBetween, served_at, by_cycle, times_of, times_by_cycle}
 use Rattle.request_table.proofs.Cutting.{at}
 use Rattle.request_table.proofs.Cycles.{flat-same}
 use Rattle.request_table.proofs.Reading.{own-table}
@@ -34,23 +34,23 @@ use Rattle.laws.proofs.Dated.{requests_arrive_as_issued}
 use Rattle.laws.proofs.Serving.{KeepsCycles, run-keeps, are_timed, are_by_cycle, channel_by_cycle}
 use Rattle.laws.proofs.Summing.{of-channel}
 use Rattle.units.specs.SpanLaws.Mail.{mail_before}
-use Rattle.units.specs.Kept.{served_of}
+use Rattle.units.specs.Kept.{served_by_channel}
 use Rattle.units.specs.declared.machine.Machine.{Machine}
 use Rattle.units.specs.Runs.{run_of, commands_at}
 use Rattle.units.proofs.Tabled.{lists_below, table-is}
 
 -- the requests that the channels below a number served
 abbrev pub served_below : Machine → ℕ → ℕ → List (List ServedRequest)
-served_below machine now n = map (served_of machine now) (below n)
+served_below machine now n = map (served_by_channel machine now) (below n)
 
 -- each of these lists stands by cycle
-pub served-rise : (machine : Machine) (now : ℕ) (channels : List ℕ) → All (AreServed 0 now) (map (served_of machine now) channels)
-served-rise machine now channels = All-from_recursion (AreServed 0 now) _ (each channels)
+pub served-rise : (machine : Machine) (now : ℕ) (channels : List ℕ) → All (AreServedBetween 0 now) (map (served_by_channel machine now) channels)
+served-rise machine now channels = All-from_recursion (AreServedBetween 0 now) _ (each channels)
   where
-    each : (channels : List ℕ) → Each (AreServed 0 now) (map (served_of machine now) channels)
+    each : (channels : List ℕ) → Each (AreServedBetween 0 now) (map (served_by_channel machine now) channels)
     each [] = tt
     each (channel ∷ channels) = (
-      subst (λ n. AreServed 0 n (served_of machine now channel)) (length-channel_steps_of machine.config machine.traces.items now channel)
+      subst (λ n. AreServedBetween 0 n (served_by_channel machine now channel)) (length-channel_steps_of machine.config machine.traces.items now channel)
           (channel_by_cycle (arrival_of machine.config (run_of machine now) channel) channel (channel_steps_of machine.config machine.traces.items now channel)),
       each channels,
     )
@@ -71,7 +71,7 @@ at-serving f h t (x ∷ xs) = by (eqb x.cycle t) refl (at-serving f h t xs)
     by false e k = at-cons t (f x) (filter_map f xs) false x.cycle (h x) e ∙ k ∙ ap (filter_map f) (sym (cond-false _ _ _ e))
 
 -- what a channel serves
-own-serving : (machine : Machine) (now channel : ℕ) → filter_map (served_in_run machine.config (run_of machine now)) (commands_at machine now channel) ≡ served_of machine now channel
+own-serving : (machine : Machine) (now channel : ℕ) → filter_map (served_in_run machine.config (run_of machine now)) (commands_at machine now channel) ≡ served_by_channel machine now channel
 unfolding served_requests issued_commands
 own-serving machine now channel =
     let history = run_of machine now in
@@ -79,7 +79,7 @@ own-serving machine now channel =
 
 -- in a cycle
 lists-at : (machine : Machine) (now t : ℕ) (channels : List ℕ)
-    → at t (filter_map (served_in_run machine.config (run_of machine now)) (flat_map (λ rows. rows) (map (commands_at machine now) channels))) ≡ served_at (map (served_of machine now) channels) t
+    → at t (filter_map (served_in_run machine.config (run_of machine now)) (flat_map (λ rows. rows) (map (commands_at machine now) channels))) ≡ served_at (map (served_by_channel machine now) channels) t
 lists-at machine now t [] = refl
 lists-at machine now t (channel ∷ channels) =
     let f = served_in_run machine.config (run_of machine now) in
@@ -106,7 +106,7 @@ requests-are machine now =
     let history = run_of machine now in
     let served = filter_map (served_in_run machine.config history) (commands history) in
     let long : length history ≡ now = length_run machine.config machine.traces.items now in
-    let stand : AreServed 0 now served = subst (λ n. AreServed 0 n served) long (are_by_cycle machine.config history) in
+    let stand : AreServedBetween 0 now served = subst (λ n. AreServedBetween 0 n served) long (are_by_cycle machine.config history) in
     let same : by_cycle now (served ∷ []) ≡ by_cycle now (served_below machine now machine.config.channels) =
     flat-same (served_at (served ∷ [])) (served_at (served_below machine now machine.config.channels)) 0 now (λ t l. append-nil (at t served) ∙ cycle-is machine now t) in
     ap (map (times_of machine.config now)) (sym same ∙ own-table now served stand)
@@ -115,17 +115,17 @@ requests-are machine now =
 
 -- what a channel keeps is what it served in the run
 dated : (s : Config) (history : List MachineStep) (channel : ℕ) (mail : List Message)
-    → Each (λ m. IfSome (request_in m.payload) (λ r. r.arrival ≡ arrival_of s history channel (source_of r))) mail → Each (λ r. r.arrival ≡ arrival_of s history channel (source_of r)) (requests_in mail)
+    → Each (λ m. IfSome (request_in m.payload) (λ r. r.arrival ≡ arrival_of s history channel (source_of r))) mail → Each (λ r. r.arrival ≡ arrival_of s history channel (source_of r)) (carried_requests mail)
 dated s history channel [] h = tt
 dated s history channel (m ∷ mail) h = by (request_in m.payload) h.0 (dated s history channel mail h.1)
   where
-    by : (o : Option Request) → IfSome o (λ r. r.arrival ≡ arrival_of s history channel (source_of r)) → Each (λ r. r.arrival ≡ arrival_of s history channel (source_of r)) (requests_in mail)
-        → Each (λ (r : Request). r.arrival ≡ arrival_of s history channel (source_of r)) (cons_option o (requests_in mail))
+    by : (o : Option Request) → IfSome o (λ r. r.arrival ≡ arrival_of s history channel (source_of r)) → Each (λ r. r.arrival ≡ arrival_of s history channel (source_of r)) (carried_requests mail)
+        → Each (λ (r : Request). r.arrival ≡ arrival_of s history channel (source_of r)) (cons_option o (carried_requests mail))
     by None k rest = rest
     by (Some r) k rest = (k, rest)
 
 pub kept-is : (machine : Machine) (now channel : ℕ) (kept : Option (Vec ServedRequest Global)) → channel < machine.config.channels
-    → KeepsServed kept (commands_at machine now channel) (mail_before machine.config machine.traces.items now (unit.Channel channel) now) → IfSome kept (λ rows. rows.items ≡ served_of machine now channel)
+    → KeepsServed kept (commands_at machine now channel) (mail_before machine.config machine.traces.items now (unit.Channel channel) now) → IfSome kept (λ rows. rows.items ≡ served_by_channel machine now channel)
 kept-is machine now channel None l h = tt
 kept-is machine now channel (Some rows) l h =
     let history = run_of machine now in

@@ -23,7 +23,7 @@ use Rattle.channel_step.specs.Channels.{StandsFor as ChannelStandsFor}
 use Rattle.channel_step.specs.Runs.{StandsAt}
 use Rattle.channel_step.specs.declared.channel.Channel.{Channel}
 use Rattle.core_window.specs.CoreViews.{view_of}
-use Rattle.core_window.specs.Rests.{Rests, MayRest}
+use Rattle.core_window.specs.Rests.{Rests, HasSomePast}
 use Rattle.core_window.specs.declared.core_unit.Core.{Core}
 use Rattle.units.specs.SpanLaws.Cores.{core_steps_of}
 use Rattle.units.specs.SpanLaws.Mail.{mail_before}
@@ -63,7 +63,7 @@ channel-next_act machine channel from next = go next
         }
 
 -- a core of a simulator may be asked
-pub core-may_rest : (machine : Machine) (u : MachineUnit) (c : Box Core Global) (now : ℕ) → IsPart machine u now (part.Core c) → MayRest (view_of c.value)
+pub core-may_rest : (machine : Machine) (u : MachineUnit) (c : Box Core Global) (now : ℕ) → IsPart machine u now (part.Core c) → HasSomePast (view_of c.value)
 core-may_rest machine (unit.Core core) c now h =
     record { s = machine.config; core = core; trace = trace_of machine.traces.items core; steps = core_steps_of machine.config machine.traces.items now core; mail = mail_before machine.config machine.traces.items now (unit.Core core) now; stands = h }
 core-may_rest machine (unit.Channel channel) c now h = absurd h

@@ -11,9 +11,9 @@ use Rattle.statistics.proofs.Replies.{length-steps_of_core}
 use Rattle.channel_step.specs.Runs.{with_more, CanRun}
 use Rattle.channel_step.specs.declared.channel.Channel.{Channel}
 use Rattle.core_window.specs.CoreViews.{view_of}
-use Rattle.core_window.specs.Fit.{MayRun, Runs, RunsOnto}
+use Rattle.core_window.specs.Fit.{CanRun as CoreCanRun, RunsOver, RunsOnto}
 use Rattle.core_window.specs.declared.core_unit.Core.{Core}
-use Rattle.units.specs.SpanLaws.Channels.{Gives}
+use Rattle.units.specs.SpanLaws.Channels.{ChannelRunsOver}
 use Rattle.units.proofs.SpanLaws.ChannelsOn.{channels-may_run, channels-go_on}
 use Rattle.units.proofs.SpanLaws.CoresOn.{cores-may_run, cores-go_on}
 use Rattle.units.specs.Parts.{IsReadyFor, HasRunOnto}
@@ -27,9 +27,9 @@ core-at machine (unit.Core core) c inbox from until h = h.stands.now ∙ length-
 core-at machine (unit.Channel channel) c inbox from until h = absurd h.stands
 
 pub core-may_run : (machine : Machine) (unit : MachineUnit) (c : Box Core Global) (inbox : List Message) (from until : ℕ)
-    → IsReadyFor machine unit (part.Core c) inbox from until → MayRun (view_of c.value) from until inbox
+    → IsReadyFor machine unit (part.Core c) inbox from until → CoreCanRun (view_of c.value) from until inbox
 core-may_run machine (unit.Core core) c inbox from until h =
-    subst (MayRun (view_of c.value) from until) (sym h.mail) (cores-may_run machine.config machine.traces.items from until core (view_of c.value) h.exists h.order h.stands)
+    subst (CoreCanRun (view_of c.value) from until) (sym h.mail) (cores-may_run machine.config machine.traces.items from until core (view_of c.value) h.exists h.order h.stands)
 core-may_run machine (unit.Channel channel) c inbox from until h = absurd h.stands
 
 pub core-has_run : (machine : Machine) (unit : MachineUnit) (c d : Box Core Global) (inbox held holds : List Message) (from until : ℕ)
@@ -37,7 +37,7 @@ pub core-has_run : (machine : Machine) (unit : MachineUnit) (c d : Box Core Glob
     → HasRunOnto machine unit from until (part.Core d) held holds
 core-has_run machine (unit.Core core) c d inbox held holds from until h runs =
     let goes = cores-go_on machine.config machine.traces.items from until core (view_of c.value) (view_of d.value) runs.sent h.exists h.order h.stands
-    (subst (λ mail. Runs (view_of c.value) from until mail (view_of d.value) runs.sent) h.mail runs.runs) in
+    (subst (λ mail. RunsOver (view_of c.value) from until mail (view_of d.value) runs.sent) h.mail runs.runs) in
     record { messages = runs.sent; behind = runs.behind; ran = record { exists = h.exists; stands = goes.0; sent = goes.1 } }
 core-has_run machine (unit.Channel channel) c d inbox held holds from until h runs = absurd h.stands
 
@@ -53,11 +53,11 @@ kept-more None then xs ys more e f h = subst (λ kept. IfSome kept (λ rows. row
 kept-more (Some rows) then xs ys more e f h = subst (λ kept. IfSome kept (λ rows. rows ≡ ys)) (sym e) (ap (λ x. x ++ more) h ∙ sym f)
 
 pub channel-has_run : (machine : Machine) (unit : MachineUnit) (c d : Box Channel Global) (rows more : Option (List IssuedCommand)) (inbox held holds : List Message) (from until : ℕ)
-    → IsReadyFor machine unit (part.Channel c rows) inbox from until → Gives c.value inbox from until d.value rows more held holds
+    → IsReadyFor machine unit (part.Channel c rows) inbox from until → ChannelRunsOver c.value inbox from until d.value rows more held holds
     → HasRunOnto machine unit from until (part.Channel d more) held holds
 channel-has_run machine (unit.Channel channel) c d rows more inbox held holds from until h gives =
     let goes = channels-go_on machine.config machine.traces.items from until channel c.value d.value rows more held holds h.exists h.order h.stands.0
-    (subst (λ mail. Gives c.value mail from until d.value rows more held holds) h.mail gives) in
+    (subst (λ mail. ChannelRunsOver c.value mail from until d.value rows more held holds) h.mail gives) in
     record {
       messages = goes.sent;
       behind = goes.messages_behind;

@@ -41,7 +41,7 @@ use Rattle.units.specs.declared.part.UnitState.TheVariants as part
 use Rattle.units.proofs.Resting.{rests-in_none}
 use Rattle.units.specs.declared.machine.Machine.{Machine}
 use Rattle.units.specs.Runs.{run_of, sent_at}
-use Rattle.units.specs.Wakes.{Sleeper, Waits, IsInboxKnown, HasGoneOn}
+use Rattle.units.specs.Wakes.{UnitWithWord, Waits, IsInboxKnown, HasGoneOn}
 
 -- who rests is silent
 pub rests-silent : (s : Config) (traces : List (List Entry)) (from until : ℕ) (u : MachineUnit) → RestsAlone s traces from until u → IsSilent s traces from until u
@@ -75,47 +75,47 @@ known-mail machine there from until u h =
     sym (arriving-arrived from until (inbox machine.config machine.traces.items (run_of machine until) u)) ∙ ap (arriving from until) h ∙ arriving-arrived from until (inbox machine.config machine.traces.items (run_of machine there) u)
 
 -- as far as is known nothing arrived at a unit that waits
-pub waits-none : (machine : Machine) (u : MachineUnit) (here there : ℕ) (sleeper : Sleeper) → Waits machine u here there sleeper → mail_in machine.config machine.traces.items there u sleeper.at here ≡ []
-waits-none machine u here there sleeper h = none-part machine.config machine.traces.items there sleeper.at sleeper.wake sleeper.at here u (omega arith) h.ahead h.may.none
+pub waits-none : (machine : Machine) (u : MachineUnit) (here there : ℕ) (unit_with_word : UnitWithWord) → Waits machine u here there unit_with_word → mail_in machine.config machine.traces.items there u unit_with_word.at here ≡ []
+waits-none machine u here there unit_with_word h = none-part machine.config machine.traces.items there unit_with_word.at unit_with_word.wake unit_with_word.at here u (omega arith) h.ahead h.may.none
 
 -- a unit that waits has sent nothing since the cycle where it stands
-pub waits-sent : (machine : Machine) (u : MachineUnit) (here there : ℕ) (sleeper : Sleeper) → Exists machine.config u → IsInboxKnown machine there here u → Waits machine u here there sleeper
-    → sent_at machine here u ≡ sent_at machine sleeper.at u
-waits-sent machine u here there sleeper k known h =
-    silent-sent machine.config machine.traces.items sleeper.at here u k h.behind (silent-sooner machine.config machine.traces.items sleeper.at here sleeper.wake u h.ahead h.may.silent)
-    (known-mail machine there sleeper.at here u known ∙ waits-none machine u here there sleeper h)
+pub waits-sent : (machine : Machine) (u : MachineUnit) (here there : ℕ) (unit_with_word : UnitWithWord) → Exists machine.config u → IsInboxKnown machine there here u → Waits machine u here there unit_with_word
+    → sent_at machine here u ≡ sent_at machine unit_with_word.at u
+waits-sent machine u here there unit_with_word k known h =
+    silent-sent machine.config machine.traces.items unit_with_word.at here u k h.behind (silent-sooner machine.config machine.traces.items unit_with_word.at here unit_with_word.wake u h.ahead h.may.silent)
+    (known-mail machine there unit_with_word.at here u known ∙ waits-none machine u here there unit_with_word h)
 
 -- a unit that waits goes on, untouched, up to a cycle that is not past its word: it sends nothing, and nothing arrives
 -- at it
-pub untouched : (machine : Machine) (u : MachineUnit) (here there until : ℕ) (sleeper : Sleeper) → Exists machine.config u → here ≤ until → IsInboxKnown machine there until u
-    → until ≤ sleeper.wake → Waits machine u here there sleeper → HasGoneOn machine u here there until sleeper []
-untouched machine u here there until sleeper k l known w h =
-    let none : mail_in machine.config machine.traces.items until u sleeper.at until ≡ [] =
-    known-mail machine there sleeper.at until u known ∙ none-part machine.config machine.traces.items there sleeper.at sleeper.wake sleeper.at until u (omega arith) w h.may.none in
+pub untouched : (machine : Machine) (u : MachineUnit) (here there until : ℕ) (unit_with_word : UnitWithWord) → Exists machine.config u → here ≤ until → IsInboxKnown machine there until u
+    → until ≤ unit_with_word.wake → Waits machine u here there unit_with_word → HasGoneOn machine u here there until unit_with_word []
+untouched machine u here there until unit_with_word k l known w h =
+    let none : mail_in machine.config machine.traces.items until u unit_with_word.at until ≡ [] =
+    known-mail machine there unit_with_word.at until u known ∙ none-part machine.config machine.traces.items there unit_with_word.at unit_with_word.wake unit_with_word.at until u (omega arith) w h.may.none in
     record {
       waits = record { behind = omega (arith, h.behind, l); ahead = w; stands = h.stands; may = h.may };
-      sent = silent-sent machine.config machine.traces.items sleeper.at until u k (omega (arith, h.behind, l)) (silent-sooner machine.config machine.traces.items sleeper.at until sleeper.wake u w h.may.silent) none
-          ∙ sym (waits-sent machine u here there sleeper k (known-sooner machine there here until u l known) h) ∙ sym (append-nil (sent_at machine here u));
+      sent = silent-sent machine.config machine.traces.items unit_with_word.at until u k (omega (arith, h.behind, l)) (silent-sooner machine.config machine.traces.items unit_with_word.at until unit_with_word.wake u w h.may.silent) none
+          ∙ sym (waits-sent machine u here there unit_with_word k (known-sooner machine there here until u l known) h) ∙ sym (append-nil (sent_at machine here u));
     }
 
 -- nothing arrives at it in the span
-pub untouched-none : (machine : Machine) (u : MachineUnit) (here there until : ℕ) (sleeper : Sleeper) → until ≤ sleeper.wake → Waits machine u here there sleeper
+pub untouched-none : (machine : Machine) (u : MachineUnit) (here there until : ℕ) (unit_with_word : UnitWithWord) → until ≤ unit_with_word.wake → Waits machine u here there unit_with_word
     → mail_in machine.config machine.traces.items there u here until ≡ []
-untouched-none machine u here there until sleeper w h = none-part machine.config machine.traces.items there sleeper.at sleeper.wake here until u h.behind w h.may.none
+untouched-none machine u here there until unit_with_word w h = none-part machine.config machine.traces.items there unit_with_word.at unit_with_word.wake here until u h.behind w h.may.none
 
 -- a unit that is woken is run from its own cycle, however far back that is, with what arrives at it from where its kind
 -- stands
-pub woken-ready : (machine : Machine) (u : MachineUnit) (here there until : ℕ) (sleeper : Sleeper) (inbox : List Message) → Exists machine.config u → here ≤ until → until ≤ 10 ^ 12
-    → IsInboxKnown machine there until u → Waits machine u here there sleeper → inbox ≡ mail_in machine.config machine.traces.items there u here until → IsReadyFor machine u sleeper.part inbox sleeper.at until
-woken-ready machine u here there until sleeper mail k l early known h e =
+pub woken-ready : (machine : Machine) (u : MachineUnit) (here there until : ℕ) (unit_with_word : UnitWithWord) (inbox : List Message) → Exists machine.config u → here ≤ until → until ≤ 10 ^ 12
+    → IsInboxKnown machine there until u → Waits machine u here there unit_with_word → inbox ≡ mail_in machine.config machine.traces.items there u here until → IsReadyFor machine u unit_with_word.part inbox unit_with_word.at until
+woken-ready machine u here there until unit_with_word mail k l early known h e =
     record {
       exists = k;
       order = omega (arith, h.behind, l);
       early = early;
       stands = h.stands;
       mail = e
-          ∙ sym (none-first machine.config machine.traces.items there sleeper.at here until u h.behind l (waits-none machine u here there sleeper h))
-          ∙ sym (known-mail machine there sleeper.at until u known);
+          ∙ sym (none-first machine.config machine.traces.items there unit_with_word.at here until u h.behind l (waits-none machine u here there unit_with_word h))
+          ∙ sym (known-mail machine there unit_with_word.at until u known);
     }
 
 empty-span : (until arrival : ℕ) → (leb until arrival && ltb arrival until) ≡ true → (leb until arrival && ltb arrival until) ≡ false
@@ -130,7 +130,7 @@ span-none until (m ∷ ms) = go (leb until m.arrival && ltb m.arrival until) ref
     go false e rest = rest
 
 -- a unit that is woken, and run from its own cycle, then stands at the end of the span
-pub woken-has_run : (machine : Machine) (u : MachineUnit) (here there until : ℕ) (before after : Sleeper) (sent : List Message) → Exists machine.config u → here ≤ until → IsInboxKnown machine there until u
+pub woken-has_run : (machine : Machine) (u : MachineUnit) (here there until : ℕ) (before after : UnitWithWord) (sent : List Message) → Exists machine.config u → here ≤ until → IsInboxKnown machine there until u
     → Waits machine u here there before → HasRun machine u before.at until after.part sent → after.at ≡ until → until ≤ after.wake → IsSilent machine.config machine.traces.items until after.wake u
     → mail_in machine.config machine.traces.items there u until after.wake ≡ [] → HasGoneOn machine u here there until after sent
 woken-has_run machine u here there until before after sent k l known h ran at w silent none =
@@ -197,20 +197,20 @@ none-due channels from word least u (m ∷ ms) h l =
     ∙ none-due channels from word least u ms (λ k d i. h (suc k) d (omega (arith, i))) l
 
 -- a unit that waits may be run up to the cycle where the machine stands, where nothing arrives at it
-pub waits-ready : (machine : Machine) (u : MachineUnit) (now : ℕ) (sleeper : Sleeper) (none : List Message) → Exists machine.config u → now ≤ 10 ^ 12 → Waits machine u now now sleeper → none ≡ []
-    → IsReadyFor machine u sleeper.part none sleeper.at now
-waits-ready machine u now sleeper none k early h e =
-    record { exists = k; order = h.behind; early = early; stands = h.stands; mail = e ∙ sym (waits-none machine u now now sleeper h) }
+pub waits-ready : (machine : Machine) (u : MachineUnit) (now : ℕ) (unit_with_word : UnitWithWord) (none : List Message) → Exists machine.config u → now ≤ 10 ^ 12 → Waits machine u now now unit_with_word → none ≡ []
+    → IsReadyFor machine u unit_with_word.part none unit_with_word.at now
+waits-ready machine u now unit_with_word none k early h e =
+    record { exists = k; order = h.behind; early = early; stands = h.stands; mail = e ∙ sym (waits-none machine u now now unit_with_word h) }
 
 -- a unit that stands where the machine does may be woken at once
-pub awake-waits : (machine : Machine) (u : MachineUnit) (now : ℕ) (sleeper : Sleeper) → IsPart machine u now sleeper.part → sleeper.at ≡ now → sleeper.wake ≡ now → Waits machine u now now sleeper
-awake-waits machine u now sleeper h at wake =
+pub awake-waits : (machine : Machine) (u : MachineUnit) (now : ℕ) (unit_with_word : UnitWithWord) → IsPart machine u now unit_with_word.part → unit_with_word.at ≡ now → unit_with_word.wake ≡ now → Waits machine u now now unit_with_word
+awake-waits machine u now unit_with_word h at wake =
     record {
       behind = omega (arith, at);
       ahead = omega (arith, wake);
-      stands = subst (λ n. IsPart machine u n sleeper.part) (sym at) h;
+      stands = subst (λ n. IsPart machine u n unit_with_word.part) (sym at) h;
       may = record {
-        silent = subst (λ n. IsSilent machine.config machine.traces.items n sleeper.wake u) (sym at) (subst (λ n. IsSilent machine.config machine.traces.items now n u) (sym wake) (rests-silent machine.config machine.traces.items now now u (rests-in_none machine.config machine.traces.items now u)));
+        silent = subst (λ n. IsSilent machine.config machine.traces.items n unit_with_word.wake u) (sym at) (subst (λ n. IsSilent machine.config machine.traces.items now n u) (sym wake) (rests-silent machine.config machine.traces.items now now u (rests-in_none machine.config machine.traces.items now u)));
         none = ap₂ (λ m n. mail_in machine.config machine.traces.items now u m n) at wake ∙ span-none now _;
       };
     }

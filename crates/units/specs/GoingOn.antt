@@ -1,11 +1,11 @@
 -- Units of a kind that go on over a span, while those that send to them stand.
---     WaitsAt machine place span sleeper      the unit at a place waits where the span begins
---     WaitsNow machine place now sleeper      the unit at a place waits where all units stand
+--     WaitsAt machine place span unit_with_word      the unit at a place waits where the span begins
+--     WaitsNow machine place now unit_with_word      the unit at a place waits where all units stand
 --     HoldsInboxOver machine place span links      the links hold what arrives at the unit at a place in a span
 --     MayBeWoken machine place span unit      the unit at a place waits where the span begins, with some word
 --     MayBeBroughtUp machine place now unit      the unit at a place waits where all units stand, with some word
 --     links_taken machine place span links      the links when the unit at a place has taken what arrives in a span
---     GoesOnOver machine place span sleeper old new      the unit at a place has gone on, and what it sent is added
+--     GoesOnOver machine place span unit_with_word old new      a unit has gone on, and what it sent is added
 --     WaitAllAt, WaitAllPast, HoldInboxesOver, links_taken_by, sent_over      the same of all units of a range
 --     NothingArrives links unit from until      no message in flight arrives at a unit in a span
 --     IsReceiver s link place, HasNoReceiver s link      the place of the unit that a link leads to; there is none
@@ -19,28 +19,29 @@ use Rattle.links.specs.InFlight.{InFlight, is_due}
 use Rattle.units.specs.Flight.{sent_by}
 use Rattle.units.specs.Units.{unit_at, unit_count}
 use Rattle.units.specs.declared.machine.Machine.{Machine}
-use Rattle.units.specs.Wakes.{Sleeper, Waits, WaitAll, HoldsInbox, HoldInboxes, AddsWhatItSent, links_after, sleeper}
+use Rattle.units.specs.Wakes.{UnitWithWord, Waits, WaitAll, HoldsInbox, HoldInboxes, AddsWhatItSent, links_after, unit_with_word}
 use Rattle.units.specs.declared.timed_unit.TimedUnit.{TimedUnit}
 use Rattle.units.specs.declared.timed_unit.Span.{Span}
 use Rattle.units.specs.declared.waking.UnitRange.{UnitRange}
 
 -- the unit at a place waits where a span begins
-abbrev pub WaitsAt : Machine → ℕ → Span → Sleeper → Type 0
-WaitsAt machine place span sleeper = Waits machine (unit_at machine.config place) span.here span.there sleeper
+abbrev pub WaitsAt : Machine → ℕ → Span → UnitWithWord → Type 0
+WaitsAt machine place span unit_with_word =
+    Waits machine (unit_at machine.config place) span.here span.there unit_with_word
 
 -- the unit at a place waits where all units stand
-abbrev pub WaitsNow : Machine → ℕ → ℕ → Sleeper → Type 0
-WaitsNow machine place now sleeper = Waits machine (unit_at machine.config place) now now sleeper
+abbrev pub WaitsNow : Machine → ℕ → ℕ → UnitWithWord → Type 0
+WaitsNow machine place now unit_with_word = Waits machine (unit_at machine.config place) now now unit_with_word
 
 -- the unit at a place waits where a span begins, with some word
 pub record MayBeWoken (machine : Machine) (place : ℕ) (span : Span) (unit : TimedUnit) : Type 0 where
   pub word : ℕ
-  pub waits : WaitsAt machine place span (sleeper unit word)
+  pub waits : WaitsAt machine place span (unit_with_word unit word)
 
 -- the unit at a place waits where all units stand, with some word
 pub record MayBeBroughtUp (machine : Machine) (place now : ℕ) (unit : TimedUnit) : Type 0 where
   pub word : ℕ
-  pub waits : WaitsNow machine place now (sleeper unit word)
+  pub waits : WaitsNow machine place now (unit_with_word unit word)
 
 -- the links hold what arrives at the unit at a place up to the end of a span
 abbrev pub HoldsInboxOver : Machine → ℕ → Span → InFlight → Type 0
@@ -54,9 +55,9 @@ links_taken machine place span links =
     record links { messages = filter (λ m. not (taken m)) links.messages }
 
 -- the unit at a place has gone on over a span, and what it sent is put at the end of a list
-abbrev pub GoesOnOver : Machine → ℕ → Span → Sleeper → List Message → List Message → Type 0
-GoesOnOver machine place span sleeper old new =
-    AddsWhatItSent machine (unit_at machine.config place) span.here span.there span.until sleeper old new
+abbrev pub GoesOnOver : Machine → ℕ → Span → UnitWithWord → List Message → List Message → Type 0
+GoesOnOver machine place span unit_with_word old new =
+    AddsWhatItSent machine (unit_at machine.config place) span.here span.there span.until unit_with_word old new
 
 -- the units of a range wait where a span begins
 abbrev pub WaitAllAt : Machine → Span → UnitRange → Type 0

@@ -1,6 +1,6 @@
 -- What the channels of a machine keep for the tables of its run.
 --     AreHeld lists rows      these lists hold these rows, if they are kept
---     served_of machine now channel      the requests that a channel served in the first cycles of a run
+--     served_by_channel machine now channel      the requests that a channel served in the first cycles of a run
 --     command_lists, served_lists machine now      the commands and the requests of each channel, by number
 --     command_table_if, request_table_if asked machine now      the tables of all channels, where they are asked for
 use Rattle.std.specs.Prelude.{◌≡◌, ℕ, Bool, List, Option, Vec, IfSome, map}
@@ -20,8 +20,8 @@ abbrev pub AreHeld : {A : Type 0} → Option (Vec A Global) → List A → Type 
 AreHeld lists rows = IfSome lists (λ kept. kept.items ≡ rows)
 
 -- the requests that a channel served in the first cycles of a run, in the order of their commands
-abbrev pub served_of : Machine → ℕ → ℕ → List ServedRequest
-served_of machine now channel =
+abbrev pub served_by_channel : Machine → ℕ → ℕ → List ServedRequest
+served_by_channel machine now channel =
     served_requests (arrival_of machine.config (run_of machine now) channel) (commands_at machine now channel)
 
 -- the commands of each channel, by number
@@ -30,7 +30,7 @@ command_lists machine now = map (commands_at machine now) (below machine.config.
 
 -- the requests that each channel served, by number
 abbrev pub served_lists : Machine → ℕ → List (List ServedRequest)
-served_lists machine now = map (served_of machine now) (below machine.config.channels)
+served_lists machine now = map (served_by_channel machine now) (below machine.config.channels)
 
 -- the table of all commands, where it is asked for
 abbrev pub command_table_if : Bool → Machine → ℕ → Option (List IssuedCommand)

@@ -34,7 +34,8 @@ IsPart machine (unit.Channel channel) now (part.Core c) = ⊥
 
 -- A unit of a machine stands for its part of a run at the beginning of a span. The messages are those that arrive at
 -- it in the span.
-pub record IsReadyFor (machine : Machine) (unit : MachineUnit) (part : UnitState) (inbox : List Message) (from until : ℕ) : Type 0 where
+pub record IsReadyFor (machine : Machine) (unit : MachineUnit) (part : UnitState) (inbox : List Message)
+    (from until : ℕ) : Type 0 where
   pub exists : Exists machine.config unit
   pub order : from ≤ until
   pub early : until ≤ 10 ^ 12
@@ -50,14 +51,16 @@ pub record IsReady (part : UnitState) (inbox : List Message) (from until : ℕ) 
 
 -- A unit of a machine stands for its part of a run at the end of a span. The messages are those that it sends in the
 -- span.
-pub record HasRun (machine : Machine) (unit : MachineUnit) (from until : ℕ) (part : UnitState) (messages : List Message) : Type 0 where
+pub record HasRun (machine : Machine) (unit : MachineUnit) (from until : ℕ) (part : UnitState) (messages : List Message)
+    : Type 0 where
   pub exists : Exists machine.config unit
   pub stands : IsPart machine unit until part
   pub sent : sent_at machine until unit ≡ sent_at machine from unit ++ messages
 
 -- A unit of a machine stands for its part of a run at the end of a span. What it sends in the span is put behind what a
 -- list held before.
-pub record HasRunOnto (machine : Machine) (unit : MachineUnit) (from until : ℕ) (part : UnitState) (held holds : List Message) : Type 0 where
+pub record HasRunOnto (machine : Machine) (unit : MachineUnit) (from until : ℕ) (part : UnitState)
+    (held holds : List Message) : Type 0 where
   pub messages : List Message
   pub behind : holds ≡ held ++ messages
   pub ran : HasRun machine unit from until part messages

@@ -15,7 +15,8 @@ use Rattle.units.specs.declared.part.UnitState.{UnitState}
 abbrev pub MayRest : Machine → ℕ → ℕ → MachineUnit → Type 0
 MayRest machine from until unit = RestsAlone machine.config machine.traces.items from until unit
 
--- if nothing arrived from `from` on, a unit would send nothing before `until`; it may retire and issue Plain entries
+-- if nothing arrived from `from` on, a unit would send nothing before `until`; a core may retire and issue Plain
+-- entries, and a channel may issue commands other than RD and WR
 abbrev pub SendsNothing : Machine → ℕ → ℕ → MachineUnit → Type 0
 SendsNothing machine from until unit = IsSilent machine.config machine.traces.items from until unit
 

@@ -4,16 +4,16 @@
 --     links_at machine now      the links, with the messages in flight before a cycle
 --     sent_at machine now unit      what a unit has sent before a cycle
 --     is_over_at, ends_at machine now      the run is over before a cycle; and the configuration ends it there
---     stats_at, last_at machine now      the statistics of the cycles before `now`, and the state then
+--     stats_at, final_at machine now      the statistics of the cycles before `now`, and the state then
 --     outcome_at tables machine now      the statistics and the state, with the tables that are asked for
 --     commands_at machine now channel      the commands of a channel before a cycle
 --     HasChannelAt machine channel now c      a channel stands for its part of the run
 --     core_stats_at, channel_stats_at machine now number      the statistics of one unit
---     core_last_at, channel_last_at machine now number      the state of one unit
+--     core_final_at, channel_final_at machine now number      the state of one unit
 --     due_at machine now channel rank      the refreshes due of a rank
 --     row_at machine now channel bank      the row that is open in a bank
 --     each_core_stats, each_channel_stats machine now      the statistics of each unit, by number
---     each_core_last, each_channel_last machine now      the state of each unit, by number
+--     each_core_final, each_channel_final machine now      the state of each unit, by number
 --     each_due machine now channel      the refreshes due of each rank, by number
 --     rows_in_banks machine now channel banks      the rows that are open in some banks
 --     open_rows_at machine now channel      the open rows of all banks of a channel
@@ -28,8 +28,8 @@ use Rattle.sim_base.specs.declared.command.IssuedCommand.{IssuedCommand}
 use Rattle.sim_base.specs.declared.message.Message.{Message}
 use Rattle.sim_base.specs.declared.message.Unit.{Unit as MachineUnit}
 use Rattle.sim_base.specs.declared.place.BankId.{BankId}
-use Rattle.statistics.specs.Runs.{stats_of, stats_of_core, stats_of_channel, final_of, last_of_core, last_of_channel, open_row_of_bank}
-use Rattle.statistics.specs.Values.{RunStats, LastCore, LastChannel, LastState, RunOutcome}
+use Rattle.statistics.specs.Runs.{stats_of, stats_of_core, stats_of_channel, final_of, final_of_core, final_of_channel, open_row_of_bank}
+use Rattle.statistics.specs.Values.{RunStats, FinalCore, FinalChannel, FinalView, RunOutcome}
 use Rattle.statistics.specs.declared.channels.ChannelStats.{ChannelStats}
 use Rattle.statistics.specs.declared.cores.CoreStats.{CoreStats}
 use Rattle.statistics.specs.declared.final_state.OpenRow.{OpenRow}
@@ -88,16 +88,16 @@ abbrev pub channel_stats_at : Machine → ℕ → ℕ → ChannelStats
 channel_stats_at machine now channel = stats_of_channel machine.config machine.traces.items (run_of machine now) channel
 
 -- the state of the machine before a cycle of the run
-abbrev pub last_at : Machine → ℕ → LastState
-last_at machine now = final_of machine.config machine.traces.items (run_of machine now)
+abbrev pub final_at : Machine → ℕ → FinalView
+final_at machine now = final_of machine.config machine.traces.items (run_of machine now)
 
 -- the state of a core before a cycle of the run
-abbrev pub core_last_at : Machine → ℕ → ℕ → LastCore
-core_last_at machine now core = last_of_core machine.config machine.traces.items (run_of machine now) core
+abbrev pub core_final_at : Machine → ℕ → ℕ → FinalCore
+core_final_at machine now core = final_of_core machine.config machine.traces.items (run_of machine now) core
 
 -- the state of a channel before a cycle of the run
-abbrev pub channel_last_at : Machine → ℕ → ℕ → LastChannel
-channel_last_at machine now channel = last_of_channel machine.config machine.traces.items (run_of machine now) channel
+abbrev pub channel_final_at : Machine → ℕ → ℕ → FinalChannel
+channel_final_at machine now channel = final_of_channel machine.config machine.traces.items (run_of machine now) channel
 
 -- what the run leaves after the cycles before `now`, with the tables that are asked for
 abbrev pub outcome_at : Tables → Machine → ℕ → RunOutcome
@@ -120,12 +120,12 @@ abbrev pub each_channel_stats : Machine → ℕ → List ChannelStats
 each_channel_stats machine now = map (channel_stats_at machine now) (below machine.config.channels)
 
 -- the state of each core before a cycle, by number
-abbrev pub each_core_last : Machine → ℕ → List LastCore
-each_core_last machine now = map (core_last_at machine now) (below machine.config.cores)
+abbrev pub each_core_final : Machine → ℕ → List FinalCore
+each_core_final machine now = map (core_final_at machine now) (below machine.config.cores)
 
 -- the state of each channel before a cycle, by number
-abbrev pub each_channel_last : Machine → ℕ → List LastChannel
-each_channel_last machine now = map (channel_last_at machine now) (below machine.config.channels)
+abbrev pub each_channel_final : Machine → ℕ → List FinalChannel
+each_channel_final machine now = map (channel_final_at machine now) (below machine.config.channels)
 
 -- the refreshes that are due at a channel before a cycle of the run, of each rank by number
 abbrev pub each_due : Machine → ℕ → ℕ → List ℕ

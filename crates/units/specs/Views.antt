@@ -3,16 +3,16 @@
 --     machine_with s traces      a machine of a configuration, with the traces of its cores
 --     first_view machine      before the first cycle
 --     HasReached sim limit after      the run of the same machine, when the cycles before a limit are over
---     is_over_now, flight_now, stats_now, last_now sim      what there is to see where a simulator stands
+--     is_over_now, flight_now, stats_now, final_now sim      what there is to see where a simulator stands
 --     outcome_now tables sim      what the cycles that are over leave
 use Rattle.std.specs.Prelude.{◌≡◌, ℕ, Bool, List, Vec}
 use Rattle.std.specs.declared.alloc.Global.{Global}
 use Rattle.sim_base.specs.declared.config.Config.{Config}
 use Rattle.sim_base.specs.declared.message.Message.{Message}
 use Rattle.sim_base.specs.declared.trace.Entry.{Entry}
-use Rattle.statistics.specs.Values.{RunStats, LastState, RunOutcome}
+use Rattle.statistics.specs.Values.{RunStats, FinalView, RunOutcome}
 use Rattle.statistics.specs.declared.tables.Tables.{Tables}
-use Rattle.units.specs.Runs.{flight_at, is_over_at, stats_at, last_at, outcome_at}
+use Rattle.units.specs.Runs.{flight_at, is_over_at, stats_at, final_at, outcome_at}
 use Rattle.units.specs.declared.machine.Machine.{Machine}
 
 -- the run of a machine, with the number of cycles that are over, and the number of phases that they took
@@ -47,8 +47,8 @@ abbrev pub stats_now : SimView → RunStats
 stats_now sim = stats_at sim.machine sim.now
 
 -- the state that the cycles that are over leave
-abbrev pub last_now : SimView → LastState
-last_now sim = last_at sim.machine sim.now
+abbrev pub final_now : SimView → FinalView
+final_now sim = final_at sim.machine sim.now
 
 -- what the cycles that are over leave, with the tables that are asked for
 abbrev pub outcome_now : Tables → SimView → RunOutcome

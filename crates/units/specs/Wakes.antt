@@ -1,17 +1,17 @@
 -- A machine whose units stand at cycles of their own, so that a phase touches only those with something to do.
---     Sleeper      a unit, the cycle where it stands, and its wake word
+--     UnitWithWord      a unit, the cycle where it stands, and its wake word
 --     AreTimedUnits now parts units      units that all stand at a cycle
 --     HasRunAndTells machine unit from until part held holds send      a unit has run, and tells when it may send again
 --     MayWait machine unit known at wake      as far as is known, a unit at cycle `at` may be left alone up to `wake`
---     Waits machine unit here there sleeper      a unit of a kind that stands at a cycle may be left alone for now
+--     Waits machine unit here there unit_with_word      a unit may be left alone up to its word, as far as is known
 --     WaitAll machine first here there units words      all units at places from `first` on may be left alone for now
 --     IsInboxKnown machine there until unit      what arrives at a unit before `until` was sent before `there`
 --     HoldsInbox machine here there until unit links      the links hold what arrives at a unit, and it is known
 --     HoldInboxes machine first count here there until links      the links hold what arrives at `count` units
 --     units_from s first count      `count` units at places from `first` on
 --     links_after s from until first count links      the links when `count` units have taken what arrives in a span
---     HasGoneOn machine unit here there until sleeper messages      a unit has gone on to a cycle, and sent this
---     IsAsleep machine first now units words links      what holds of some units of a machine between two phases
+--     HasGoneOn machine unit here there until unit_with_word messages      a unit has gone on to a cycle, and sent this
+--     AreBetweenPhases machine first now units words links      what holds of some units between two phases
 --     HaveRun machine first now until units words links      what holds of some units at the end of a phase
 --     arrived_at, arriving_at machine known unit ..      what arrives at a unit before a cycle, and in a span
 --     links_to s first count mail      links with the messages that go to `count` units at places from `first` on
@@ -38,7 +38,7 @@ use Rattle.units.specs.declared.part.UnitState.{UnitState}
 use Rattle.units.specs.declared.timed_unit.TimedUnit.{TimedUnit}
 
 -- A unit, the cycle where it stands, and its wake word: before that it sends nothing, and nothing arrives at it.
-pub record Sleeper : Type 0 where
+pub record UnitWithWord : Type 0 where
   pub part : UnitState
   pub at : ℕ
   pub wake : ℕ
@@ -51,12 +51,12 @@ pub record AreTimedUnits (now : ℕ) (parts : List UnitState) (units : List Time
   pub stand : (k : ℕ) (d : TimedUnit) → k < length parts → (slice_index_or units k d).at ≡ now
 
 -- a unit with its word
-abbrev pub sleeper : TimedUnit → ℕ → Sleeper
-sleeper unit word = record { part = unit.part; at = unit.at; wake = word }
+abbrev pub unit_with_word : TimedUnit → ℕ → UnitWithWord
+unit_with_word unit word = record { part = unit.part; at = unit.at; wake = word }
 
 -- the unit at a place of these units, with its word
-abbrev pub sleeper_at : List TimedUnit → List ℕ → ℕ → TimedUnit → Sleeper
-sleeper_at units words k d = sleeper (slice_index_or units k d) (slice_index_or words k 0)
+abbrev pub unit_with_word_at : List TimedUnit → List ℕ → ℕ → TimedUnit → UnitWithWord
+unit_with_word_at units words k d = unit_with_word (slice_index_or units k d) (slice_index_or words k 0)
 
 -- A unit stands at the end of a span, and what it sends in it is put behind what a list held before. It sends nothing
 -- more before cycle `send`, if nothing arrives at it.
@@ -85,17 +85,18 @@ pub record MayWait (machine : Machine) (unit : MachineUnit) (known at wake : ℕ
 -- A unit stands for its part of a run up to its own cycle, which is not past the cycle `here` where its kind stands,
 -- and may be left alone up to its word, as far as is known from the units that send to it, which stand at cycle
 -- `there`.
-pub record Waits (machine : Machine) (unit : MachineUnit) (here there : ℕ) (sleeper : Sleeper) : Type 0 where
-  pub behind : sleeper.at ≤ here
-  pub ahead : here ≤ sleeper.wake
-  pub stands : IsPart machine unit sleeper.at sleeper.part
-  pub may : MayWait machine unit there sleeper.at sleeper.wake
+pub record Waits (machine : Machine) (unit : MachineUnit) (here there : ℕ) (unit_with_word : UnitWithWord)
+    : Type 0 where
+  pub behind : unit_with_word.at ≤ here
+  pub ahead : here ≤ unit_with_word.wake
+  pub stands : IsPart machine unit unit_with_word.at unit_with_word.part
+  pub may : MayWait machine unit there unit_with_word.at unit_with_word.wake
 
 -- all units at places from `first` on may be left alone, in their order, each up to the word at its place
 abbrev pub WaitAll : Machine → ℕ → ℕ → ℕ → List TimedUnit → List ℕ → Type 0
 WaitAll machine first here there units words =
     (k : ℕ) (d : TimedUnit) → k < length units
-    → Waits machine (unit_at machine.config (first + k)) here there (sleeper_at units words k d)
+    → Waits machine (unit_at machine.config (first + k)) here there (unit_with_word_at units words k d)
 
 -- what arrives at a unit before a cycle was sent in the first `there` cycles of a run
 abbrev pub IsInboxKnown : Machine → ℕ → ℕ → MachineUnit → Type 0
@@ -131,19 +132,22 @@ links_to s first count mail = record { channels = s.channels; messages = among s
 
 -- A unit has gone on with its kind from cycle `here` to `until`, while those that send to it stand at `there`. What
 -- they have sent so far it knows.
-pub record HasGoneOn (machine : Machine) (unit : MachineUnit) (here there until : ℕ) (sleeper : Sleeper) (messages : List Message) : Type 0 where
-  pub waits : Waits machine unit until there sleeper
+pub record HasGoneOn (machine : Machine) (unit : MachineUnit) (here there until : ℕ) (unit_with_word : UnitWithWord)
+    (messages : List Message) : Type 0 where
+  pub waits : Waits machine unit until there unit_with_word
   pub sent : sent_at machine until unit ≡ sent_at machine here unit ++ messages
 
 -- a unit has gone on with its kind, and what it sent is put at the end of a list
-pub record AddsWhatItSent (machine : Machine) (unit : MachineUnit) (here there until : ℕ) (sleeper : Sleeper) (old new : List Message) : Type 0 where
+pub record AddsWhatItSent (machine : Machine) (unit : MachineUnit) (here there until : ℕ)
+    (unit_with_word : UnitWithWord) (old new : List Message) : Type 0 where
   pub messages : List Message
-  pub has_run : HasGoneOn machine unit here there until sleeper messages
+  pub has_run : HasGoneOn machine unit here there until unit_with_word messages
   pub added : new ≡ old ++ messages
 
 -- What holds of some units of a machine, at places from `first` on, between two phases: the links hold exactly what is
 -- in flight to them in the run.
-pub record IsAsleep (machine : Machine) (first now : ℕ) (units : List TimedUnit) (words : List ℕ) (links : InFlight) : Type 0 where
+pub record AreBetweenPhases (machine : Machine) (first now : ℕ) (units : List TimedUnit) (words : List ℕ)
+    (links : InFlight) : Type 0 where
   pub early : now ≤ 10 ^ 12
   pub within : first + length units ≤ unit_count machine.config
   pub words_count : length words ≡ length units
@@ -152,7 +156,8 @@ pub record IsAsleep (machine : Machine) (first now : ℕ) (units : List TimedUni
 
 -- What holds of some units of a machine, at places from `first` on, at the end of a phase: their words do not yet know
 -- what was sent in it, and the links hold exactly what was in flight to them at its beginning and arrives later.
-pub record HaveRun (machine : Machine) (first now until : ℕ) (units : List TimedUnit) (words : List ℕ) (links : InFlight) : Type 0 where
+pub record HaveRun (machine : Machine) (first now until : ℕ) (units : List TimedUnit) (words : List ℕ)
+    (links : InFlight) : Type 0 where
   pub within : first + length units ≤ unit_count machine.config
   pub words_count : length words ≡ length units
   pub between : WaitAll machine first until now units words

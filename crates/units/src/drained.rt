@@ -19,7 +19,7 @@ fn has_finished(machine: &Machine, place: usize, part: &UnitState) -> bool
 {
     match part {
         UnitState::Core(core) => core.stats().retired == machine.trace_len(place),
-        UnitState::Channel(channel, _) => channel.waiting() == 0,
+        UnitState::Channel(channel, _) => channel.waiting_count() == 0,
     }
 }
 

@@ -7,7 +7,7 @@ ghost use Rattle.sim_base.specs.declared.message.Unit.TheVariants as unit;
 ghost use Rattle.channel_step.specs.Channels.{HasBank};
 ghost use Rattle.units.specs.declared.machine.Machine.{Machine};
 ghost use Rattle.units.specs.Rows.{HasGroup, AddsRows};
-ghost use Rattle.units.specs.Runs.{HasChannelAt, core_last_at, channel_last_at, each_core_last, each_channel_last, each_due, open_rows_at, row_at};
+ghost use Rattle.units.specs.Runs.{HasChannelAt, core_final_at, channel_final_at, each_core_final, each_channel_final, each_due, open_rows_at, row_at};
 ghost use Rattle.units.specs.Units.{unit_count};
 ghost use Rattle.units.specs.Parts.{IsPart, StandAt};
 
@@ -29,7 +29,7 @@ fn core_left(
     part: &UnitState,
 ) -> Result<CoreState, AllocError>
     requires stands { IsPart machine.now (unit.Core core) now part.now }
-    ensures { IfOk result (λ left. left ≡ core_last_at machine.now now core) }
+    ensures { IfOk result (λ left. left ≡ core_final_at machine.now now core) }
 {
     match part {
         UnitState::Core(core) => {
@@ -142,7 +142,7 @@ fn channel_left(
     part: &UnitState,
 ) -> Result<ChannelState, AllocError>
     requires stands { IsPart machine.now (unit.Channel number) now part.now }
-    ensures { IfOk result (λ left. left ≡ channel_last_at machine.now now number) }
+    ensures { IfOk result (λ left. left ≡ channel_final_at machine.now now number) }
 {
     match part {
         UnitState::Core(..) => unreachable!(),
@@ -163,7 +163,7 @@ pub(crate) fn cores_left(
 ) -> Result<Vec<CoreState>, AllocError>
     requires count { length parts.now ≡ unit_count machine.now.config }
     requires stand { StandAt machine.now now parts.now }
-    ensures { IfOk result (λ v. v.items ≡ each_core_last machine.now now) }
+    ensures { IfOk result (λ v. v.items ≡ each_core_final machine.now now) }
 {
     let mut left = Vec::new(alloc);
     for core in 0..machine.config.cores {
@@ -182,7 +182,7 @@ pub(crate) fn channels_left(
 ) -> Result<Vec<ChannelState>, AllocError>
     requires count { length parts.now ≡ unit_count machine.now.config }
     requires stand { StandAt machine.now now parts.now }
-    ensures { IfOk result (λ v. v.items ≡ each_channel_last machine.now now) }
+    ensures { IfOk result (λ v. v.items ≡ each_channel_final machine.now now) }
 {
     let mut left = Vec::new(alloc);
     for channel in 0..machine.config.channels {

@@ -11,7 +11,7 @@ ghost use Rattle.units.specs.Kept.{command_table_if, request_table_if};
 ghost use Rattle.units.specs.Parts.{StandAt};
 ghost use Rattle.units.specs.Stops.{IsWholeUnlessDrained, HasNoMore};
 ghost use Rattle.units.specs.Units.{unit_count};
-ghost use Rattle.units.specs.Views.{first_view, machine_with, is_over_now, flight_now, stats_now, last_now, outcome_now};
+ghost use Rattle.units.specs.Views.{first_view, machine_with, is_over_now, flight_now, stats_now, final_now, outcome_now};
 
 use crate::counts::{stats_of_channels, stats_of_cores};
 use crate::drained::{all_finished, cores_until, flight_until};
@@ -262,7 +262,7 @@ impl Sim {
 
     /// The state in which the machine is left: the state of each unit, and the messages in flight.
     fn final_state(&self, alloc: Global) -> Result<FinalState, AllocError>
-        ensures { IfOk result (λ last. last ≡ last_now self.entry.now) }
+        ensures { IfOk result (λ last. last ≡ final_now self.entry.now) }
     {
         let machine: &Machine = &self.machine;
         Ok(FinalState {
@@ -275,7 +275,7 @@ impl Sim {
     /// The statistics of the cycles that are over, and the state in which they left the machine.
     fn stats_and_state(&self, alloc: Global) -> Result<(Stats, FinalState), AllocError>
         ensures stats { IfOk result (λ found. found.0 ≡ stats_now self.entry.now) }
-        ensures last { IfOk result (λ found. found.1 ≡ last_now self.entry.now) }
+        ensures last { IfOk result (λ found. found.1 ≡ final_now self.entry.now) }
     {
         let stats = self.stats(alloc)?;
         let last = self.final_state(alloc)?;

@@ -4,7 +4,7 @@ ghost use Rattle.std.specs.Prelude.{◌≡◌, ◌<◌, ◌++◌, ℕ, List, [],
 ghost use Rattle.sim_base.specs.declared.message.Unit.TheVariants as unit;
 ghost use Rattle.request_table.specs.declared.served_requests.ServedRequest.{ServedRequest};
 ghost use Rattle.sim_base.specs.declared.command.IssuedCommand.{IssuedCommand};
-ghost use Rattle.units.specs.Kept.{AreHeld, served_of, command_lists, served_lists, command_table_if, request_table_if};
+ghost use Rattle.units.specs.Kept.{AreHeld, served_by_channel, command_lists, served_lists, command_table_if, request_table_if};
 ghost use Rattle.units.specs.Runs.{HasChannelAt, commands_at};
 ghost use Rattle.units.specs.Units.{unit_count};
 ghost use Rattle.units.specs.Parts.{IsPart, StandAt};
@@ -57,7 +57,7 @@ fn add<T: Drop>(lists: &mut Option<Vec<T>>, list: Option<T>) -> Result<(), Alloc
 fn list_of(channel: Channel) -> Option<ServedList>
     ensures { (machine : Machine) (number now : ℕ) → number < machine.config.channels
         → HasChannelAt machine number now channel
-        → IfSome result (λ list. list ≡ served_of machine now number) }
+        → IfSome result (λ list. list ≡ served_by_channel machine now number) }
 {
     Some(ServedList::of(channel.into_served()?))
 }
@@ -74,7 +74,8 @@ fn add_part(kept: &mut KeptLists, part: UnitState) -> Result<(), AllocError>
     ensures served { (machine : Machine) (channel now : ℕ) (rows : List (List ServedRequest))
         → channel < machine.config.channels → IsPart machine (unit.Channel channel) now part
         → AreHeld kept.old.served rows
-        → OnOk result (AreHeld kept.new.served (rows ++ served_of machine now channel ∷ [])) }
+        → OnOk result
+        (AreHeld kept.new.served (rows ++ served_by_channel machine now channel ∷ [])) }
 {
     match part {
         UnitState::Core(_) => Ok(()),

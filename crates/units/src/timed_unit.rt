@@ -7,7 +7,7 @@ ghost use Rattle.units.specs.Quiet.{IsInSomeRun, SendsNothing};
 ghost use Rattle.units.specs.Units.{unit_count};
 ghost use Rattle.units.specs.declared.machine.Machine.{Machine};
 ghost use Rattle.units.specs.GoingOn.{MayBeWoken, MayBeBroughtUp, HoldsInboxOver, GoesOnOver, NothingArrives, links_taken};
-ghost use Rattle.units.specs.Wakes.{HasRunAndTells, sleeper};
+ghost use Rattle.units.specs.Wakes.{HasRunAndTells, unit_with_word};
 
 use crate::machine::{Machine, unit_at};
 use crate::message_lists::MessageLists;
@@ -102,7 +102,7 @@ impl TimedUnit {
         requires waits { MayBeWoken machine.now place span.now self.old }
         requires holds_inbox { HoldsInboxOver machine.now place span.now traffic.old.links }
         ensures has_run { IfOk result (λ wake.
-            GoesOnOver machine.now place span.now (sleeper self.new wake)
+            GoesOnOver machine.now place span.now (unit_with_word self.new wake)
             traffic.old.lists.sent.items traffic.new.lists.sent.items) }
         ensures links { OnOk result (
             traffic.new.links ≡ links_taken machine.now place span.now traffic.old.links) }

@@ -22,7 +22,8 @@ text_in (Requests requests) = requests_text requests.now
 
 -- its paths and its text
 abbrev pub planned_of : PlannedTable → PlannedText
-planned_of planned = record { from = string_bytes planned.way.from; to = string_bytes planned.way.to; text = text_in planned.contents }
+planned_of planned =
+    record { from = string_bytes planned.way.from; to = string_bytes planned.way.to; text = text_in planned.contents }
 
 -- the paths and the text of each of these tables
 abbrev pub plans_of : List PlannedTable → List PlannedText

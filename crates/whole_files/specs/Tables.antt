@@ -13,8 +13,8 @@
 --     ArePut planned old new      they were written and got their places
 --     IsLeftUnplaced refusal planned old new      what a refusal leaves of them
 --     IsWritten folder run old new      the tables of an outcome are in their places, and no others are there
---     IsTorn folder run old new      only the first tables of an outcome are in their places
---     IsKeptBack folder run old new      no table is in its place
+--     AreTorn planned old new      only the first of them got their places
+--     AreKeptBack planned old new      no table is in its place
 --     LeavesAll refusal old new before after      a refusal leaves everything as it was
 --     IsUnplaced, IsLeftBy refusal folder run old new      what a refusal leaves
 use Rattle.std.specs.Prelude.{◌≡◌, ◌≢◌, ◌⊎◌, ℕ, ◌<◌, Bool, List, [], ◌∷◌, ◌++◌, length, map, take, drop, codes, is_some, option_map, Option, Some, None, string_bytes, if◌then◌else◌}
@@ -81,7 +81,8 @@ requests_of run = option_map requests_text run.requests
 abbrev pub tables_in : RunOutcome → List NamedText
 tables_in run =
     table_named commands_name (commands_of run)
-    ++ (table_named stats_name (stats_of run) ++ (table_named final_name (final_of run) ++ table_named requests_name (requests_of run)))
+    ++ (table_named stats_name (stats_of run)
+    ++ (table_named final_name (final_of run) ++ table_named requests_name (requests_of run)))
 
 -- the names under which a table may stand, where it is not asked for: its own, and that under which it is written
 abbrev pub names_unless : Bool → List ℕ → List (List ℕ)
@@ -106,7 +107,8 @@ pub record PlannedText : Type 0 where
 
 -- the paths of a table in a folder, and its text
 abbrev pub planned_in : List ℕ → NamedText → PlannedText
-planned_in folder table = record { from = path_in folder (part_of table.name); to = path_in folder table.name; text = table.text }
+planned_in folder table =
+    record { from = path_in folder (part_of table.name); to = path_in folder table.name; text = table.text }
 
 -- the tables of an outcome, with their paths in a folder
 abbrev pub plan_in : List ℕ → RunOutcome → List PlannedText

@@ -22,7 +22,7 @@ use Rattle.queue.specs.Columns.{bank_number}
 use Rattle.queue.specs.declared.bank_candidates.entry.CandidatesOfBank.{CandidatesOfBank}
 use Rattle.queue.specs.Candidates.{asks, hits, first_place, AreCandidates}
 use Rattle.sim_base.specs.Earlier.{earlier}
-use Rattle.queue.proofs.Stood.{bank_named}
+use Rattle.sim_base.proofs.Banks.{number_names_bank}
 use Rattle.queue.proofs.Searches.{none_everywhere, none_narrower_all}
 use Rattle.channel_step.specs.FrFcfs.Requests.{IsInBanks, finds_row_open}
 use Rattle.channel_step.specs.declared.fr_fcfs.accesses.Accesses.{Accesses}
@@ -34,7 +34,7 @@ use Rattle.channel_step.proofs.FrFcfs.Firsts.{same_among, either_among, place_if
 pub number_is : (ranks : ℕ) (r : Request) (bank : ℕ) → IsInBanks ranks r → is_bank (bank_in r.place) (bank_at bank) ≡ eqb (bank_number r.place) bank
 number_is ranks r bank places =
     (λ i. eqb-swap r.place.rank (bank / 16) i && eqb-swap r.place.group (bank / 4 % 4) i && eqb-swap r.place.bank (bank % 4) i)
-    ∙ sym (bank_named bank (bank_in r.place) places.group places.bank)
+    ∙ sym (number_names_bank bank (bank_in r.place) places.group places.bank)
     ∙ eqb-swap bank (bank_number r.place)
 
 pub bank_is : (ranks : ℕ) (r : Request) (bank : ℕ) → IsInBanks ranks r → eqb (bank_number r.place) bank ≡ true → bank_in r.place ≡ bank_at bank

@@ -36,8 +36,8 @@ offer_without : (room : ℕ) (o : Offer) → room ≤ o.place → if_within room
 offer_without room o outside = cond-false (ltb o.place room) (Some o) None (le-ltb o.place room outside)
 
 -- the offer that is the best, with one of `room` places
-told : (room now : ℕ) (h r : ℕ → Option ℕ) (o : Offer) → o.place < room → IsBestOffer now h r o → IsBestSoFar room now h r o
-told room now h r o inside best = record {
+best_so_far : (room now : ℕ) (h r : ℕ → Option ℕ) (o : Offer) → o.place < room → IsBestOffer now h r o → IsBestSoFar room now h r o
+best_so_far room now h r o inside best = record {
   none = λ outside. absurd (omega arith);
   best = subst (IsBest now h r) (sym (offer_within room o inside)) best;
 }
@@ -59,13 +59,13 @@ pub one_more : (room now : ℕ) (h r h2 r2 : ℕ → Option ℕ) (best o : Offer
 one_more room now h r h2 r2 best o inside fits so_far offered = elim (cases_lt best.place room) [
   | inl within ↦
       let first = subst (IsBest now h r) (offer_within room best within) so_far.best in
-      told room now (λ c. earlier (h c) (h2 c)) (λ c. earlier (r c) (r2 c)) (cond (goes_before o best) o best) (picked room (goes_before o best) o best inside within)
+      best_so_far room now (λ c. earlier (h c) (h2 c)) (λ c. earlier (r c) (r2 c)) (cond (goes_before o best) o best) (picked room (goes_before o best) o best inside within)
       (better_is now h r h2 r2 best o (goes_before o best) refl first offered)
   | inr outside ↦
       let never = subst (IsBest now h r) (offer_without room best outside) so_far.best in
       let goes : goes_before o best ≡ true = ap (goes_before o) (so_far.none outside) ∙ before_none room o inside fits in
       subst (IsBestSoFar room now (λ c. earlier (h c) (h2 c)) (λ c. earlier (r c) (r2 c))) (sym (cond-true (goes_before o best) o best goes))
-      (told room now (λ c. earlier (h c) (h2 c)) (λ c. earlier (r c) (r2 c)) o inside (second_alone_is now h r h2 r2 (Some o) never offered))
+      (best_so_far room now (λ c. earlier (h c) (h2 c)) (λ c. earlier (r c) (r2 c)) o inside (second_alone_is now h r h2 r2 (Some o) never offered))
 ]
 
 -- the best offer so far is that of any other functions that give the same places in each cycle from now on
@@ -89,7 +89,7 @@ pub hits_late : (room now floor : ℕ) (hits rows late_hits : ℕ → Option ℕ
 hits_late room now floor hits rows late_hits o late fits none so_far = elim (cases_lt o.place room) [
   | inl within ↦
       let best = subst (IsBest now hits rows) (offer_within room o within) so_far.best in
-      told room now (λ c. earlier (hits c) (late_hits c)) rows o within
+      best_so_far room now (λ c. earlier (hits c) (late_hits c)) rows o within
       (record {
         from_now = best.from_now;
         none_before = λ c from before. let before_it = best.none_before c from before in (ap (earlier (hits c)) (none c (omega arith)) ∙ earlier_none (hits c) ∙ before_it.0, before_it.1);
@@ -106,7 +106,7 @@ pub rows_late : (room now floor : ℕ) (hits rows late_rows : ℕ → Option ℕ
 rows_late room now floor hits rows late_rows o late fits none so_far = elim (cases_lt o.place room) [
   | inl within ↦
       let best = subst (IsBest now hits rows) (offer_within room o within) so_far.best in
-      told room now hits (λ c. earlier (rows c) (late_rows c)) o within
+      best_so_far room now hits (λ c. earlier (rows c) (late_rows c)) o within
       (record {
         from_now = best.from_now;
         none_before = λ c from before. let before_it = best.none_before c from before in (before_it.0, ap (earlier (rows c)) (none c (omega arith)) ∙ earlier_none (rows c) ∙ before_it.1);

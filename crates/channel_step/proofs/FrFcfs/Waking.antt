@@ -10,7 +10,7 @@ use Rattle.sim_base.specs.declared.message.Request.{Request}
 use Rattle.sim_base.specs.Scheduling.{first_ready, due, refresh_command, if_legal, choice_between, lowest_due}
 use Rattle.bank_ready.specs.Refreshes.{RefreshCounts, lowest_owed, is_due_at, IsDueFrom, StandsFor}
 use Rattle.bank_ready.proofs.Due.{lowest_due_from_owed, none_owed_before}
-use Rattle.channel_step.specs.declared.fr_fcfs.choice.Choice.{Choice}
+use Rattle.channel_step.specs.declared.fr_fcfs.choice.Need.{Need}
 use Rattle.channel_step.specs.FrFcfs.Requests.{IsLegalFrom}
 use Rattle.channel_step.specs.FrFcfs.Cycles.{IsFirst, IsNextAt, IsNext}
 use Rattle.channel_step.proofs.FrFcfs.Legal.{legal_at}
@@ -77,7 +77,7 @@ next_later s history command due ready now commands rest is legal late none = re
 }
 
 -- the next of some commands is the next of others that are the same from now on
-pub next_same : (commands rest : ℕ → Option Command) (needs : Choice → Option Command) (now : ℕ) (next : Option (ℕ × Choice)) → ((c : ℕ) → now ≤ c → commands c ≡ rest c)
+pub next_same : (commands rest : ℕ → Option Command) (needs : Need → Option Command) (now : ℕ) (next : Option (ℕ × Need)) → ((c : ℕ) → now ≤ c → commands c ≡ rest c)
     → IsNext rest needs now next → IsNext commands needs now next
 next_same commands rest needs now None same is = λ c from. same c from ∙ is c from
 next_same commands rest needs now (Some next) same is = record {
@@ -88,7 +88,7 @@ next_same commands rest needs now (Some next) same is = record {
 }
 
 -- the refreshes of one rank more, below those that were looked at
-pub refreshes_more : (s : Config) (history : List IssuedCommand) (requests : List Request) (needs : Choice → Option Command) (rank ranks now : ℕ) (due_cycle : Option ℕ) (first next : Option (ℕ × Choice))
+pub refreshes_more : (s : Config) (history : List IssuedCommand) (requests : List Request) (needs : Need → Option Command) (rank ranks now : ℕ) (due_cycle : Option ℕ) (first next : Option (ℕ × Need))
     → IsDueFrom (due s rank history) now due_cycle → rank < ranks
     → ((n : ℕ) → (rank + 1) + n ≡ ranks → IsNext (chosen_from s history requests (rank + 1) n) needs now first)
     → ((commands rest : ℕ → Option Command) → IsRefreshed s history (refresh_command s history rank) due_cycle now commands rest → IsNext rest needs now first → IsNext commands needs now next)
@@ -102,7 +102,7 @@ refreshes_more s history requests needs rank ranks now due_cycle first next is_d
     (before n (omega arith))
 
 -- the choice with no rank is that of the requests
-pub chosen_start : (s : Config) (history : List IssuedCommand) (requests : List Request) (needs : Choice → Option Command) (ranks now : ℕ) (next : Option (ℕ × Choice))
+pub chosen_start : (s : Config) (history : List IssuedCommand) (requests : List Request) (needs : Need → Option Command) (ranks now : ℕ) (next : Option (ℕ × Need))
     → IsNext (λ cycle. first_ready s history cycle requests) needs now next → (n : ℕ) → ranks + n ≡ ranks → IsNext (chosen_from s history requests ranks n) needs now next
 chosen_start s history requests needs ranks now next is zero all =
     next_same (chosen_from s history requests ranks 0) (λ cycle. first_ready s history cycle requests) needs now next (λ c from. chosen_last s history requests ranks c) is

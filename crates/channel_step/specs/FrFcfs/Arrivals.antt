@@ -13,10 +13,10 @@ use Rattle.queue.specs.declared.request_log.Arrived.{Arrived}
 use Rattle.queue.specs.View.{QueueView}
 use Rattle.channel_step.specs.FrFcfs.Requests.{finds_row_open}
 use Rattle.channel_step.specs.FrFcfs.Choices.{choice_in, command_of}
-use Rattle.channel_step.specs.declared.fr_fcfs.choice.Choice.{Choice}
+use Rattle.channel_step.specs.declared.fr_fcfs.choice.Need.{Need}
 
--- What a request needs may not be issued before a cycle. It is not a row hit, unless what is chosen for the cycle moves
--- data.
+-- What a request needs may not be issued before a cycle. It is no column command, unless what is chosen for the cycle
+-- is one (`hit`).
 pub record ComesAfter (s : Config) (history : List IssuedCommand) (cycle : ℕ) (hit : Bool) (r : Request) : Type 0 where
   pub late : (t : ℕ) → t < cycle → is_legal s history t (needed history r) ≡ false
   pub no_hit : hit ≡ false → finds_row_open history r ≡ false
@@ -29,7 +29,7 @@ pub record KeepsNext (before after : ℕ → Option Command) (cycle : ℕ) (comm
 
 -- What was found, a cycle and what needs its command, stays the next command of a queue whose log was `before` and has
 -- got longer since.
-abbrev pub StaysFound : Config → List IssuedCommand → List Arrived → QueueView → ℕ × Choice → Type 0
+abbrev pub StaysFound : Config → List IssuedCommand → List Arrived → QueueView → ℕ × Need → Type 0
 StaysFound s history before queue found =
     (earlier : QueueView) (command : Command) → earlier.log ≡ before
     → command_of s history queue.log found.1 ≡ Some command

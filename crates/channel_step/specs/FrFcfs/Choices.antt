@@ -2,9 +2,9 @@
 --     StandFor bank_candidates banks refresh queue groups s history      the parts of a channel stand for its commands
 --     ForParts parts fact      a fact of each configuration and its commands that the parts of a channel stand for
 --     choice_in s history queue now      the command of a cycle
---     command_of s history log choice      the command that is needed by what was chosen
---     IsFor ranks log choice      what was chosen is a request that waits, or a rank that there is
---     HasPlace ranks log next      what was chosen, if anything, is a request that waits, or a rank that there is
+--     command_of s history log need      the command that a need asks for
+--     IsFor ranks log need      a need is a request that waits, or a rank that there is
+--     HasPlace ranks log next      what needs the next command, if anything, is a request that waits, or a rank that there is
 --     HoldsBack s history rank due now rest commands      a rank that is to be refreshed goes first
 --     TakesRefresh parts rank due old new      what comes next takes in the refresh of a rank
 use Rattle.std.specs.Prelude.{◌≡◌, ℕ, ◌<◌, ◌≤◌, true, List, length, Option, Some, option_map, slice_get, IfSome, if◌then◌else◌}
@@ -24,12 +24,13 @@ use Rattle.queue.specs.View.{QueueView}
 use Rattle.channel_step.specs.FrFcfs.Requests.{KnowsRows, candidates_of}
 use Rattle.channel_step.specs.FrFcfs.Cycles.{IsNext}
 use Rattle.channel_step.specs.declared.fr_fcfs.choice.ChannelParts.{ChannelParts}
-use Rattle.channel_step.specs.declared.fr_fcfs.choice.Choice.{Choice}
-use Rattle.channel_step.specs.declared.fr_fcfs.choice.Choice.TheVariants as chosen
+use Rattle.channel_step.specs.declared.fr_fcfs.choice.Need.{Need}
+use Rattle.channel_step.specs.declared.fr_fcfs.choice.Need.TheVariants as Needs
 
 -- The banks and the refreshes stand for the commands so far, under a configuration with this many groups and the
 -- queue's `high`, and the candidates for the queue and the rows that are open.
-pub record StandFor (bank_candidates : BankCandidates) (banks : Banks) (refresh : RefreshCounts) (queue : QueueView) (groups : ℕ) (s : Config) (history : List IssuedCommand) : Type 0 where
+pub record StandFor (bank_candidates : BankCandidates) (banks : Banks) (refresh : RefreshCounts) (queue : QueueView)
+    (groups : ℕ) (s : Config) (history : List IssuedCommand) : Type 0 where
   pub banks_stand : BanksStandFor banks s history
   pub candidates_stand : CandidatesStandFor bank_candidates queue.log (rows_after history)
   pub refreshes_stand : RefreshesStandFor refresh s history
@@ -47,19 +48,19 @@ ForParts parts fact =
 abbrev pub choice_in : Config → List IssuedCommand → QueueView → ℕ → Option Command
 choice_in s history queue now = choice_between s history now (candidates_of s queue) (lowest_due s history now)
 
--- the command that is needed by what was chosen: by the request at a place of a log, or by a rank that is to be
+-- the command that a need asks for: the request at a place of a log, or a rank that is to be
 -- refreshed
-abbrev pub command_of : Config → List IssuedCommand → List Arrived → Choice → Option Command
-command_of s history log (chosen.Request place) = option_map (needed history) (slice_get (all_requests log) place)
-command_of s history log (chosen.Refresh rank) = Some (refresh_command s history rank)
+abbrev pub command_of : Config → List IssuedCommand → List Arrived → Need → Option Command
+command_of s history log (Needs.Request place) = option_map (needed history) (slice_get (all_requests log) place)
+command_of s history log (Needs.Refresh rank) = Some (refresh_command s history rank)
 
--- What was chosen is a request that waits at a place of a log, or one of `ranks` ranks.
-abbrev pub IsFor : ℕ → List Arrived → Choice → Type 0
-IsFor ranks log (chosen.Request place) = (place < length log) × (waits_at log place ≡ true)
-IsFor ranks log (chosen.Refresh rank) = rank < ranks
+-- A need is a request that waits at a place of a log, or one of `ranks` ranks.
+abbrev pub IsFor : ℕ → List Arrived → Need → Type 0
+IsFor ranks log (Needs.Request place) = (place < length log) × (waits_at log place ≡ true)
+IsFor ranks log (Needs.Refresh rank) = rank < ranks
 
--- What was chosen for a cycle, if anything was, is a request that waits at a place of a log, or one of `ranks` ranks.
-abbrev pub HasPlace : ℕ → List Arrived → Option (ℕ × Choice) → Type 0
+-- What needs the next command, if anything, is a request that waits at a place of a log, or one of `ranks` ranks.
+abbrev pub HasPlace : ℕ → List Arrived → Option (ℕ × Need) → Type 0
 HasPlace ranks log next = IfSome next (λ n. IsFor ranks log n.1)
 
 -- Where a refresh of a rank is due, the command of a cycle is what the refresh needs, once that may be issued, and no
@@ -74,7 +75,7 @@ HoldsBack s history rank due now rest commands =
 -- which may be due from a cycle on, holds the rest back. This is so after each history that the banks of a channel
 -- stand for and whose open rows its candidates know, from each cycle that is not behind the one from which on the
 -- refresh is due.
-abbrev pub TakesRefresh : ChannelParts → ℕ → Option ℕ → Option (ℕ × Choice) → Option (ℕ × Choice) → Type 0
+abbrev pub TakesRefresh : ChannelParts → ℕ → Option ℕ → Option (ℕ × Need) → Option (ℕ × Need) → Type 0
 TakesRefresh parts rank due old new =
     (s : Config) (history : List IssuedCommand) (log : List Arrived)
     (commands rest : ℕ → Option Command) (now : ℕ)

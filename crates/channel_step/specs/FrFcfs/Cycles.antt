@@ -3,7 +3,7 @@
 --     IsNext commands command_of now next      the first cycle from `now` on with a command, and what needs it, or none
 use Rattle.std.specs.Prelude.{◌≡◌, ℕ, ◌<◌, ◌≤◌, Bool, true, false, Option, Some, None, is_some}
 use Rattle.sim_base.specs.declared.command.Command.{Command}
-use Rattle.channel_step.specs.declared.fr_fcfs.choice.Choice.{Choice}
+use Rattle.channel_step.specs.declared.fr_fcfs.choice.Need.{Need}
 
 -- the first cycle from `now` on in which something holds
 pub record IsFirst (holds : ℕ → Bool) (now first : ℕ) : Type 0 where
@@ -24,6 +24,6 @@ pub record IsNextAt (commands : ℕ → Option Command) (now cycle : ℕ) (comma
   pub none_before : (c : ℕ) → now ≤ c → c < cycle → commands c ≡ None
 
 -- the first cycle from `now` on that has a command, and what needs that command, or none where no cycle has one
-abbrev pub IsNext : (ℕ → Option Command) → (Choice → Option Command) → ℕ → Option (ℕ × Choice) → Type 0
+abbrev pub IsNext : (ℕ → Option Command) → (Need → Option Command) → ℕ → Option (ℕ × Need) → Type 0
 IsNext commands command_of now (Some next) = IsNextAt commands now next.0 (command_of next.1)
 IsNext commands command_of now None = (c : ℕ) → now ≤ c → commands c ≡ None

@@ -3,13 +3,13 @@
 --     only access      requests of one access go alone
 --     favoured_access draining, other_access access      the favoured access, and the access that is not this one
 --     hits_in s history log accesses bank cycle      the place of the first ready row hit of a bank in a cycle
---     row_requests_in s history log accesses bank cycle      the place of a bank's first request for an ACT or a PRE
+--     row_requests_in s history log accesses bank cycle      place of a bank's first request with a ready ACT or PRE
 --     row_requests_beside s history log accesses left cycle      the place of the first such request of all other banks
 --     all_hits s history log accesses cycle      the place of the first ready row hit of all banks in a cycle
 --     all_row_requests s history log accesses cycle      the place of the first such request of all banks
 --     no_place cycle, earlier_each a b cycle      no request, and the first of two, in each cycle
---     oldest_of accesses bank_candidates bank      the first request of a bank
---     hit_of accesses bank_candidates bank      the first row hit of a bank
+--     oldest_of accesses bank_candidates bank      the first request of a bank, of the accesses that go
+--     hit_of accesses bank_candidates bank      the first row hit of a bank, of the accesses that go
 --     NeedsRow commands bank_candidates bank      a bank whose row these commands open or close
 --     IsBest now hits rows offer      an offer is the first from `now` on
 --     IsBestSoFar room now hits rows offer      an offer is the first from `now` on, or stands for none
@@ -107,11 +107,11 @@ hit_of accesses bank_candidates bank = hit_candidate accesses (candidates_of_ban
 abbrev pub going : Accesses → List Arrived → List Request
 going accesses log = filter (is_of accesses) (first_of_lines (waiting_requests log))
 
--- a row hit of a bank that is ready in a cycle
+-- a row hit, of the accesses that go, that is ready in a cycle
 abbrev pub hits_now : Config → List IssuedCommand → Accesses → ℕ → Request → Bool
 hits_now s history accesses cycle r = is_of accesses r && ready_hit s history cycle r
 
--- a request for which an ACT or a PRE may be issued in a cycle
+-- a request, of the accesses that go, for which an ACT or a PRE may be issued in a cycle
 abbrev pub row_requests_now : Config → List IssuedCommand → List Arrived → Accesses → ℕ → Request → Bool
 row_requests_now s history log accesses cycle r = is_of accesses r && ready_row s history cycle (going accesses log) r
 
@@ -172,7 +172,11 @@ IsBest now hits rows (Some o) = IsBestOffer now hits rows o
 -- request is older.
 abbrev pub goes_before : Offer → Offer → Bool
 goes_before a b =
-    if a.cycle == b.cycle then (if a.hit then (if b.hit then nat_lt a.place b.place else true) else (if b.hit then false else nat_lt a.place b.place)) else nat_lt a.cycle b.cycle
+    if a.cycle == b.cycle
+    then (if a.hit
+    then (if b.hit then nat_lt a.place b.place else true)
+    else (if b.hit then false else nat_lt a.place b.place))
+    else nat_lt a.cycle b.cycle
 
 -- the one of two offers that goes first
 abbrev pub better_of : Offer → Offer → Offer
@@ -245,7 +249,8 @@ TakesRowsOf bank_candidates banks asked commands old new =
     → IsBestSoFar (length log) commands.now hits (row_requests_beside s history log commands.accesses left) new
 
 -- An offer is what the first ready request, from `now` on, needs. That request waits.
-pub record IsReadyAt (s : Config) (history : List IssuedCommand) (queue : QueueView) (now : ℕ) (o : Offer) : Type 0 where
+pub record IsReadyAt (s : Config) (history : List IssuedCommand) (queue : QueueView) (now : ℕ) (o : Offer)
+    : Type 0 where
   pub from_now : now ≤ o.cycle
   pub none_before : (cycle : ℕ) → now ≤ cycle → cycle < o.cycle
       → first_ready s history cycle (candidates_of s queue) ≡ None

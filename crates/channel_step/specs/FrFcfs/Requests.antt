@@ -53,7 +53,8 @@ pub record KnowsRows (bank_candidates : BankCandidates) (history : List IssuedCo
 
 -- After a list of commands banks and candidates are as these commands and a log make them, and each request of the
 -- log asks for one of the banks.
-pub record StandForLog (bank_candidates : BankCandidates) (banks : Banks) (s : Config) (history : List IssuedCommand) (log : List Arrived) : Type 0 where
+pub record StandForLog (bank_candidates : BankCandidates) (banks : Banks) (s : Config) (history : List IssuedCommand)
+    (log : List Arrived) : Type 0 where
   pub banks_stand : BanksStandFor banks s history
   pub candidates_stand : CandidatesStandFor bank_candidates log (rows_after history)
   pub in_banks : AreInBanks (rank_count banks) log

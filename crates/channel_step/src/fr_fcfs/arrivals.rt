@@ -10,12 +10,12 @@ ghost use Rattle.sim_base.specs.declared.message.Request.{Request};
 ghost use Rattle.bank_ready.specs.Words.{names_bank};
 ghost use Rattle.bank_ready.specs.Stands.{rank_count, StandsFor as BanksStandFor};
 ghost use Rattle.queue.specs.Log.{all_requests};
-ghost use Rattle.channel_step.specs.declared.fr_fcfs.choice.Choice.TheVariants as chosen;
+ghost use Rattle.channel_step.specs.declared.fr_fcfs.choice.Need.TheVariants as Needs;
 ghost use Rattle.channel_step.specs.FrFcfs.Arrivals.{ComesAfter, StaysFound};
 ghost use Rattle.channel_step.specs.FrFcfs.Choices.{command_of, IsFor};
 ghost use Rattle.channel_step.specs.FrFcfs.Requests.{IsInBanks, IsOfBank, AreInBanks, OfSameBanks, KnowsRows, ForRequests, finds_row_open};
 
-use crate::fr_fcfs::choice::Choice;
+use crate::fr_fcfs::choice::Need;
 use crate::fr_fcfs::offers::ready;
 use bank_ready::banks::Banks;
 use queue::Queue;
@@ -50,8 +50,8 @@ fn is_column_kind(kind: Kind) -> bool
     matches!(kind, Kind::Rd | Kind::Wr)
 }
 
-/// Whether what a request needs may not be issued before a cycle, and is not a row hit, unless a row hit is chosen for
-/// the cycle.
+/// Whether what a request needs may not be issued before a cycle, and is no column command, unless one is chosen for
+/// the cycle (`hit`).
 #[inline(always)]
 fn comes_after(
     bank_candidates: &BankCandidates,
@@ -85,18 +85,18 @@ fn finds_row_open(bank_candidates: &BankCandidates, request: &Request) -> bool
     }
 }
 
-/// Whether what was chosen needs a column command.
+/// Whether the command that a need asks for is a column command.
 #[inline(always)]
-fn needs_column_command(bank_candidates: &BankCandidates, log: &[Arrived], choice: Choice) -> bool
+fn needs_column_command(bank_candidates: &BankCandidates, log: &[Arrived], need: Need) -> bool
     requires places { All (IsOfBank bank_candidates.now) (all_requests log.now) }
-    requires within { (place : ℕ) → choice ≡ chosen.Request place → place < length log.now }
+    requires within { (place : ℕ) → need ≡ Needs.Request place → place < length log.now }
     ensures { (s : Config) (history : List IssuedCommand) (command : Command)
         → KnowsRows bank_candidates.now history
-        → command_of s history log.now choice ≡ Some command → result ≡ is_column_command command }
+        → command_of s history log.now need ≡ Some command → result ≡ is_column_command command }
 {
-    match choice {
-        Choice::Request(place) => finds_row_open(bank_candidates, &log[place as usize].request),
-        Choice::Refresh(_) => false,
+    match need {
+        Need::Request(place) => finds_row_open(bank_candidates, &log[place as usize].request),
+        Need::Refresh(_) => false,
     }
 }
 
@@ -109,20 +109,20 @@ pub fn stays(
     bank_candidates: &BankCandidates,
     banks: &Banks,
     from: usize,
-    found: (Cycle, Choice),
+    found: (Cycle, Need),
 ) -> bool
     requires places { AreInBanks (rank_count banks.now) queue.now.log }
     requires banks { OfSameBanks bank_candidates.now banks.now }
-    requires choice { IsFor (rank_count banks.now) queue.now.log found.1 }
+    requires need { IsFor (rank_count banks.now) queue.now.log found.1 }
     ensures { result ≡ true → ForRequests banks.now bank_candidates.now queue.now (λ s history.
         StaysFound s history (take from queue.now.log) queue.now found) }
 {
     if queue.high() != 0 {
         return false;
     }
-    let (cycle, choice) = found;
+    let (cycle, need) = found;
     let log = queue.log().log();
-    let hit = needs_column_command(bank_candidates, log, choice);
+    let hit = needs_column_command(bank_candidates, log, need);
     for place in from..log.len() {
         if !comes_after(bank_candidates, banks, &log[place].request, cycle, hit) {
             return false;

@@ -17,7 +17,7 @@ use sim_base::message::Cycle;
 
 /// What needs the next command.
 #[derive(Clone, Copy)]
-pub enum Choice {
+pub enum Need {
     /// The request at a place of the queue's log.
     Request(u32),
     /// A rank that is to be refreshed, by its number.
@@ -42,7 +42,7 @@ fn next_of_requests(
     bank_candidates: &BankCandidates,
     banks: &Banks,
     now: Cycle,
-) -> Option<(Cycle, Choice)>
+) -> Option<(Cycle, Need)>
     requires places { AreInBanks (rank_count banks.now) queue.now.log }
     requires banks { OfSameBanks bank_candidates.now banks.now }
     ensures next { ForRequests banks.now bank_candidates.now queue.now (λ s history.
@@ -52,7 +52,7 @@ fn next_of_requests(
         HasPlace (rank_count banks.now) queue.now.log result) }
 {
     match first_offer(queue, bank_candidates, banks, now) {
-        Some(offer) => Some((offer.cycle, Choice::Request(offer.place as u32))),
+        Some(offer) => Some((offer.cycle, Need::Request(offer.place as u32))),
         None => None,
     }
 }
@@ -61,7 +61,7 @@ fn next_of_requests(
 /// with a command and what needs it. Nothing is written where they stay.
 #[inline(always)]
 fn with_refresh(
-    next: &mut Option<(Cycle, Choice)>,
+    next: &mut Option<(Cycle, Need)>,
     due: Option<Cycle>,
     parts: &ChannelParts<'_>,
     rank: u32,
@@ -81,7 +81,7 @@ fn with_refresh(
         Some((cycle, _)) if cycle < due => {}
         _ => {
             let ready = refresh_ready(parts.bank_candidates, parts.banks, rank, parts.groups);
-            *next = Some((due.max(ready), Choice::Refresh(rank)));
+            *next = Some((due.max(ready), Need::Refresh(rank)));
         }
     }
 }
@@ -90,7 +90,7 @@ fn with_refresh(
 /// none. What a rank that is to be refreshed needs goes first, and holds the requests back; of these, row hits go
 /// first, and then the oldest.
 #[inline(always)]
-pub fn next(parts: &ChannelParts<'_>, now: Cycle) -> Option<(Cycle, Choice)>
+pub fn next(parts: &ChannelParts<'_>, now: Cycle) -> Option<(Cycle, Need)>
     requires places { AreInBanks (rank_count parts.now.banks.now) parts.now.queue.now.log }
     requires banks { OfSameBanks parts.now.bank_candidates.now parts.now.banks.now }
     requires ranks { parts.now.refresh.now.ranks ≤ rank_count parts.now.banks.now }

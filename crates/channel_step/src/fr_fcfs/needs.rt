@@ -71,7 +71,8 @@ pub fn refresh_command(bank_candidates: &BankCandidates, rank: u32, groups: u32)
     }
 }
 
-/// From which cycle on the command that a rank needs before its refresh may be issued.
+/// From which cycle on what a rank that is to be refreshed needs may be issued: a PREA where a row is open in the rank,
+/// and else its REF.
 #[inline(never)]
 pub(crate) fn refresh_ready(
     bank_candidates: &BankCandidates,

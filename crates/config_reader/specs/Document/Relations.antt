@@ -32,11 +32,11 @@ distances_of t = do
   _ ← relation 4 (nat_le t.n_rrd_s t.n_rrd_l)
   relation 5 (nat_le t.n_wtr_s t.n_wtr_l)
 
--- relation 6: a refresh is over before the next one is due
+-- relation 6: where there are refreshes, even the latest permitted one is over before the next one is due
 unfoldable pub refresh_of : Timing → ℕ → Result (Unit {0}) Fault
 refresh_of t ranks = relation 6 ((t.n_refi == 0) || nat_le (refresh_slack_of t ranks + t.n_rfc + 1) t.n_refi)
 
--- relation 7: a channel has a queue place for each credit
+-- relation 7: the queue of a channel, of at most 8192 places, has one for each credit
 unfoldable pub credits_of : ℕ → ℕ → ℕ → Result (Unit {0}) Fault
 credits_of cores read_credits write_credits = relation 7 (nat_le (cores * (read_credits + write_credits)) 8192)
 
@@ -51,11 +51,11 @@ links_of cores channels overrides = do
   _ ← relation 8 (list_all (λ o. nat_lt o.link (3 * cores * channels)) overrides)
   relation 9 (links_differ overrides)
 
--- relation 10: an address says which rank it lies in
+-- relation 10: where there are several ranks, an address says which one it lies in
 unfoldable pub ranks_of : ℕ → List Field → Result (Unit {0}) Fault
 ranks_of ranks fields = relation 10 ((ranks == 1) || (count_by (is_field Rank) fields == 1))
 
--- relations 11 and 12: a drain begins above where it ends, and its beginning can be reached
+-- relations 11 and 12: a drain, if there is one, begins above where it ends, and its beginning can be reached
 unfoldable pub drain_fits_of : ℕ → ℕ → ℕ → ℕ → Result (Unit {0}) Fault
 drain_fits_of cores write_credits write_high write_low = do
   _ ← relation 11 ((write_high + write_low == 0) || nat_lt write_low write_high)

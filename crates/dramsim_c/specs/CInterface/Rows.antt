@@ -42,7 +42,13 @@ sent_access false = access.Read
 -- the request that a row states
 abbrev pub sent_request : RequestRow → SentRequest
 sent_request row =
-    record { core = row.core; entry = row.entry; access = sent_access row.is_write; address = row.address; arrival = row.arrival }
+    record {
+      core = row.core;
+      entry = row.entry;
+      access = sent_access row.is_write;
+      address = row.address;
+      arrival = row.arrival;
+    }
 
 -- the number of a kind of commands
 abbrev pub kind_number : Kind → ℕ
@@ -127,7 +133,14 @@ place_row place =
 -- the place that a row states
 abbrev pub place_in : PlaceRow → Place
 place_in row =
-    record { channel = row.channel; rank = row.rank; group = row.group; bank = row.bank; row = row.row; column = row.column }
+    record {
+      channel = row.channel;
+      rank = row.rank;
+      group = row.group;
+      bank = row.bank;
+      row = row.row;
+      column = row.column;
+    }
 
 -- a count, or 0 where there is none
 abbrev pub count_or_0 : Option ℕ → ℕ

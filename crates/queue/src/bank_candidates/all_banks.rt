@@ -3,8 +3,8 @@
 ghost use Rattle.std.specs.Prelude.{◌≡◌, ℕ, ◌*◌, ◌≤◌, length, replicate, slice_index_or, None, is_some, IfOk};
 ghost use Rattle.queue.specs.Sets.{is_in};
 
+use crate::bank_candidates::candidate_words::{CandidateWords, Departure};
 use crate::bank_candidates::entry::{AccessCandidates, access_number, is_open};
-use crate::bank_candidates::places::{Departure, Places};
 use crate::bank_candidates::sets::BankSet;
 use crate::request_log::RequestLog;
 use crate::request_log::words::bank_number;
@@ -27,12 +27,12 @@ pub struct BankCandidates {
     rows: Vec<Option<u32>>,
     /// The banks in which a row is open.
     open_banks: BankSet,
-    places: Places,
+    candidate_words: CandidateWords,
     /// Of each bank and access, by number, how many requests that wait ask for it.
     counts: Vec<u16>,
     ghost few: { length rows.items ≤ 64 },
     ghost open_are: { (bank : ℕ) → is_in open_banks bank ≡ is_some (slice_index_or rows.items bank None) },
-    ghost all_places: { length places.words.items ≡ 4 * length rows.items },
+    ghost all_words: { length candidate_words.words.items ≡ 4 * length rows.items },
     ghost all_counts: { length counts.items ≡ 2 * length rows.items },
 }
 
@@ -61,7 +61,7 @@ impl BankCandidates {
             rows: closed_rows(alloc, banks)?,
             counts: vec![in alloc; 0; 2 * banks]?,
             open_banks: BankSet::none(),
-            places: Places::with_room(alloc, banks)?,
+            candidate_words: CandidateWords::with_room(alloc, banks)?,
         })
     }
 
@@ -71,7 +71,7 @@ impl BankCandidates {
         requires { bank < bank_count self.now }
         ensures { result ≡ candidates_to self.now bank access }
     {
-        self.places.of_access(bank, access)
+        self.candidate_words.of_access(bank, access)
     }
 
     /// The first request of a bank that may be served, to read or to write, where there is one.
@@ -81,7 +81,7 @@ impl BankCandidates {
         requires some { is_some (oldest_of_bank self.now bank) ≡ true }
         ensures { Some result ≡ oldest_of_bank self.now bank }
     {
-        self.places.first(bank)
+        self.candidate_words.first(bank)
     }
 
     /// The banks in which a row is open.
@@ -110,7 +110,7 @@ impl BankCandidates {
         ensures each { (bank : ℕ) → bank < bank_count self.now
             → is_in result bank ≡ is_some (candidates_to self.now bank access).oldest }
     {
-        self.places.banks(access, false)
+        self.candidate_words.banks(access, false)
     }
 
     /// The banks whose open row an eligible request to write, or to read, asks for.
@@ -120,7 +120,7 @@ impl BankCandidates {
         ensures each { (bank : ℕ) → bank < bank_count self.now
             → is_in result bank ≡ is_some (candidates_to self.now bank access).hit }
     {
-        self.places.banks(access, true)
+        self.candidate_words.banks(access, true)
     }
 
     /// Whether some request to write, or to read, may be served.
@@ -146,7 +146,7 @@ impl BankCandidates {
         self.counts[number] = self.counts[number].saturating_add(1);
         if eligible {
             let hit = is_open(self.rows[bank], request.place.row);
-            self.places.join(bank, request.access, place, hit);
+            self.candidate_words.join(bank, request.access, place, hit);
         }
     }
 
@@ -189,7 +189,7 @@ impl BankCandidates {
             access,
             empty: left == 0,
         };
-        self.places.leave(log, departure, self.rows[bank]);
+        self.candidate_words.leave(log, departure, self.rows[bank]);
     }
 
     /// Takes note of a request that may be served now that another one has been served.
@@ -205,7 +205,8 @@ impl BankCandidates {
         let request = &log.log()[next].request;
         let bank = bank_number(request.place);
         let hit = is_open(self.rows[bank], request.place.row);
-        self.places.unblock(bank, request.access, next, hit);
+        self.candidate_words
+            .unblock(bank, request.access, next, hit);
     }
 
     /// Takes note of a request that was served, and of the request that may be served since then, if there is one.
@@ -235,8 +236,8 @@ impl BankCandidates {
         prove!(log.len() < 65_535);
         for bank in 0..self.rows.len() {
             let row = self.rows[bank];
-            self.places.renew(log, bank, Access::Read, row);
-            self.places.renew(log, bank, Access::Write, row);
+            self.candidate_words.renew(log, bank, Access::Read, row);
+            self.candidate_words.renew(log, bank, Access::Write, row);
         }
     }
 
@@ -253,8 +254,8 @@ impl BankCandidates {
         let number = bank.number();
         self.rows[number] = Some(row);
         self.open_banks = self.open_banks.with(number);
-        self.places.open(number, Access::Read, row, log);
-        self.places.open(number, Access::Write, row, log);
+        self.candidate_words.open(number, Access::Read, row, log);
+        self.candidate_words.open(number, Access::Write, row, log);
     }
 
     /// Takes note of a bank, by its number, that has been closed.
@@ -268,7 +269,7 @@ impl BankCandidates {
     {
         self.rows[number] = None;
         self.open_banks = self.open_banks.without(number);
-        self.places.close(number);
+        self.candidate_words.close(number);
     }
 
     /// Takes note of a bank that has been closed.

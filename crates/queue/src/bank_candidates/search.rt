@@ -3,7 +3,7 @@
 ghost use Rattle.std.specs.Prelude.{◌≡◌, ◌-◌, ◌<◌, ◌^◌, false, length, Some, IfSome};
 ghost use Rattle.queue.specs.Candidates.{asks, wants, AreFirst, NonePasses};
 ghost use Rattle.queue.specs.Moves.{IsFirstFrom, IsFirstHit, NonePassesBefore};
-ghost use Rattle.queue.specs.Places.{IsShort};
+ghost use Rattle.queue.specs.Words.{IsShort};
 
 use crate::bank_candidates::entry::AccessCandidates;
 use crate::request_log::RequestLog;

@@ -3,7 +3,7 @@
 ghost use Rattle.std.specs.Prelude.{◌≡◌, ◌<◌, ◌^◌, [], IfOk, length};
 ghost use Rattle.queue.specs.Log.{is_for};
 ghost use Rattle.queue.specs.Columns.{counter_of_line, counter_of_row, AreCounted};
-ghost use Rattle.queue.specs.Lines.{IsFirstTold};
+ghost use Rattle.queue.specs.Lines.{IsFirstTagged};
 
 use crate::request_log::Arrived;
 use crate::request_log::words::{bank_number, tag_word};
@@ -20,8 +20,8 @@ pub(crate) fn is_for(place: Place, arrived: Arrived) -> bool
     arrived.waits && arrived.request.place.is_line(place)
 }
 
-/// The place of the first request from a place on that waits for a line, of the requests that may be served, or else of
-/// those that may not. The search is for their tags, which most other requests do not have.
+/// The place of the first request from a place on that waits for a line, of those that may be served if `eligible`, and
+/// otherwise of those that may not. The search is for their tags, which most other requests do not have.
 #[inline(never)]
 pub(crate) fn next_for_line(
     eligible: bool,
@@ -31,7 +31,7 @@ pub(crate) fn next_for_line(
     tags: &[u8],
 ) -> Option<usize>
     requires { length tags.now ≡ length log.now }
-    ensures { IsFirstTold eligible place log.now tags.now from result }
+    ensures { IsFirstTagged eligible place log.now tags.now from result }
 {
     let bank = bank_number(place) as u64;
     let read = tag_word(eligible, Access::Read, bank);
@@ -50,7 +50,7 @@ pub(crate) fn next_for_line(
     None
 }
 
-/// From this number of requests on there are fewer counters for each.
+/// Above this number of requests there are fewer counters for each.
 const MANY: usize = 4_096;
 
 /// How many counters there are at least for `room` requests: 16 for each, or 4 where `room` is large, since few queues

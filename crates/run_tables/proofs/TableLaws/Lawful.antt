@@ -22,8 +22,8 @@ use Rattle.sim_base.specs.declared.message.Access.{Access}
 use Rattle.sim_base.specs.declared.message.Access.TheVariants as access
 use Rattle.sim_base.proofs.Lists.{count-cons}
 use Rattle.statistics.specs.Channels.{channel_stats}
-use Rattle.statistics.specs.Runs.{stats_of_channel, last_of_core, last_of_channel, core_last, channel_last, credits_of, stats_of, final_of}
-use Rattle.statistics.specs.Values.{LastCore, LastChannel}
+use Rattle.statistics.specs.Runs.{stats_of_channel, final_of_core, final_of_channel, core_final, channel_final, credits_of, stats_of, final_of}
+use Rattle.statistics.specs.Values.{FinalCore, FinalChannel}
 use Rattle.statistics.specs.Outcomes.{outcome_after, outcome_of}
 use Rattle.statistics.specs.declared.tables.Tables.{Tables}
 use Rattle.statistics.specs.declared.channels.ChannelStats.{ChannelStats}
@@ -32,7 +32,7 @@ use Rattle.laws.specs.Commands.{channel_steps_of}
 use Rattle.laws.specs.Credits.{requests_sent_count}
 use Rattle.laws.specs.DataBus.{has_data_in}
 use Rattle.laws.proofs.Bounded.{queued_requests-bound, queues_are_bounded}
-use Rattle.laws.proofs.Burst.{data_bus_is_shared}
+use Rattle.laws.proofs.Burst.{bursts_do_not_overlap}
 use Rattle.laws.proofs.Conserved.{credits_come_back_once}
 use Rattle.laws.proofs.Counting.{bit_le}
 use Rattle.laws.proofs.Legal.{length-channel_steps_of}
@@ -43,7 +43,7 @@ use Rattle.run_tables.specs.TableLaws.Outcomes.{OwnsDataBus, refreshes_until, Is
 
 pub owns_data_bus : (s : Config) (traces : List (List Entry)) (n : ℕ) → OwnsDataBus s traces n
 owns_data_bus s traces n channel cycle l =
-    subst (λ t. count_by (has_data_in s.timing cycle) t ≤ 1) (sym (commands_on-commands s traces channel l n)) (data_bus_is_shared s traces n channel cycle l)
+    subst (λ t. count_by (has_data_in s.timing cycle) t ≤ 1) (sym (commands_on-commands s traces channel l n)) (bursts_do_not_overlap s traces n channel cycle l)
 
 -- each REF of the first cycles stands in one of them
 refreshed-early : (k rank cycle i n : ℕ) (past_steps : List (Option Command)) → i + n ≤ cycle + 1
@@ -103,8 +103,8 @@ longest-fits s traces n channel l =
     (λ cycle b. queues_are_bounded s traces n channel cycle l (omega arith)))
 
 left-fits : (s : Config) (traces : List (List Entry)) (n channel : ℕ) → channel < s.channels
-    → length (last_of_channel s traces (run s traces n) channel).queue ≤ queue_room s
-unfolding last_of_channel channel_last queue_left
+    → length (final_of_channel s traces (run s traces n) channel).queue ≤ queue_room s
+unfolding final_of_channel channel_final queue_left
 left-fits s traces n channel l = queued_requests-bound s traces n channel (length (channel_steps_of s traces n channel)) l
 
 pub has_bounded_queues : (tables : Tables) (s : Config) (traces : List (List Entry)) (n : ℕ) → HasBoundedQueues s (outcome_of tables s traces n)
@@ -112,7 +112,7 @@ unfolding outcome_of outcome_after stats_of final_of
 has_bounded_queues tables s traces n =
     record {
       longest = all-below (λ (c : ChannelStats). c.queued_max ≤ queue_room s) (stats_of_channel s traces (run s traces n)) s.channels (λ k l. longest-fits s traces n k l);
-      left = all-below (λ (c : LastChannel). length c.queue ≤ queue_room s) (last_of_channel s traces (run s traces n)) s.channels (λ k l. left-fits s traces n k l);
+      left = all-below (λ (c : FinalChannel). length c.queue ≤ queue_room s) (final_of_channel s traces (run s traces n)) s.channels (λ k l. left-fits s traces n k l);
     }
 
 length-core_steps : (s : Config) (traces : List (List Entry)) (n core : ℕ) → length (steps_of_core core (run s traces n)) ≡ n
@@ -134,8 +134,8 @@ held-few s traces n core channel access c l =
     (subst (λ i. count_by (is_credit_on link access i) mail ≤ requests_sent_count s traces n core channel access) long (credits_come_back_once s traces n core channel access c l))
 
 credits-few : (s : Config) (traces : List (List Entry)) (n core : ℕ) → core < s.cores
-    → All (λ (held : Credits). held.read ≤ s.read_credits × held.write ≤ s.write_credits) (last_of_core s traces (run s traces n) core).credits
-unfolding last_of_core core_last credits_of
+    → All (λ (held : Credits). held.read ≤ s.read_credits × held.write ≤ s.write_credits) (final_of_core s traces (run s traces n) core).credits
+unfolding final_of_core core_final credits_of
 credits-few s traces n core c =
     all-below (λ (held : Credits). held.read ≤ s.read_credits × held.write ≤ s.write_credits)
     (credits_of s core (trace_of traces core) (steps_of_core core (run s traces n)) (inbox s traces (run s traces n) (Core core))) s.channels
@@ -144,8 +144,8 @@ credits-few s traces n core c =
 pub holds_few_credits : (tables : Tables) (s : Config) (traces : List (List Entry)) (n : ℕ) → HoldsFewCredits s (outcome_of tables s traces n)
 unfolding outcome_of outcome_after final_of
 holds_few_credits tables s traces n =
-    all-below (λ (c : LastCore). All (λ (held : Credits). held.read ≤ s.read_credits × held.write ≤ s.write_credits) c.credits)
-    (last_of_core s traces (run s traces n)) s.cores (λ k l. credits-few s traces n k l)
+    all-below (λ (c : FinalCore). All (λ (held : Credits). held.read ≤ s.read_credits × held.write ≤ s.write_credits) c.credits)
+    (final_of_core s traces (run s traces n)) s.cores (λ k l. credits-few s traces n k l)
 
 pub keeps_credits_until : (s : Config) (traces : List (List Entry)) (n : ℕ) → KeepsCreditsUntil s traces n
 keeps_credits_until s traces n cycle l = record { spent = credits_are_never_overspent s traces cycle; back = credits_come_back_once s traces cycle }

@@ -2,7 +2,7 @@
 --     OwnsDataBus s traces n      in no cycle do two commands of a channel have data on its bus
 --     refreshes_until rank cycle table      how many REFs of a rank stand in a cycle or before it
 --     IsRefreshed s traces n      a rank's REF for each interval of nREFI cycles comes in time, with its slack
---     HasBoundedQueues s outcome      no channel ever had more of them in its queue
+--     HasBoundedQueues s outcome      no channel ever had more requests in its queue than `queue_room`
 --     HoldsFewCredits s outcome      no core is left with more credits than it began with
 --     KeepsCredits s traces cycle      by then no core has overspent its credits, and no more came back than it spent
 --     KeepsCreditsUntil s traces cycles      that holds before each of these cycles, and after them
@@ -36,7 +36,8 @@ IsRefreshed s traces n =
     m * s.timing.n_refi + refresh_slack s < n →
     m ≤ refreshes_until rank (m * s.timing.n_refi + refresh_slack s) (commands_on channel (commands (run s traces n)))
 
--- No channel ever had more requests in its queue: neither in a cycle of the run, by its statistics, nor at its end.
+-- No channel ever had more requests in its queue than `queue_room`: neither in a cycle of the run, by its statistics,
+-- nor at its end.
 pub record HasBoundedQueues (s : Config) (outcome : RunOutcome) : Type 0 where
   pub longest : All (λ c. c.queued_max ≤ queue_room s) outcome.stats.channels
   pub left : All (λ c. length c.queue ≤ queue_room s) outcome.last.channels

@@ -208,7 +208,7 @@ impl Session {
         ensures open { IsOpen self.old → IsOpen self.new }
     {
         let message = message_of(&self.config, self.number, request, place);
-        let waits = self.channel.waiting();
+        let waits = self.channel.waiting_count();
         match self.refusal(request, place, &message, waits) {
             Some(fault) => Err(fault),
             None => self.take(request, message),

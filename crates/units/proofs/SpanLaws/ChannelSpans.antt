@@ -22,7 +22,7 @@ use Rattle.units.specs.SpanLaws.Channels.{RequestsFitSpans, ChannelsRunAlone}
 use Rattle.units.specs.SpanLaws.Mail.{mail_before, mail_in}
 use Rattle.units.proofs.SpanLaws.Arrivals.{count-mine, arrived-agree, spans-join}
 use Rattle.units.proofs.SpanLaws.Lists.{Sorted-filter, arriving-within, count-kept, come-by_age}
-use Rattle.units.proofs.SpanLaws.Requests.{all-carry, span-differ, span-unnamed}
+use Rattle.units.proofs.SpanLaws.Requests.{all-carry, span-differ, span-none_issued}
 
 -- the first cycles of a span
 channel-alone : (s : Config) (traces : List (List Entry)) (from until channel : ℕ) → channel < s.channels → (n : ℕ) → from + n ≤ until
@@ -90,6 +90,6 @@ requests-fit_spans s traces from until channel k l =
       by_age = span-by_age s traces from until channel;
       in_span = Each-weaker P (λ (m : Message). (from ≤ m.arrival) × (m.arrival < until)) (λ m h. (h.0, h.1)) new within;
       differ = span-differ s traces from until channel l;
-      unnamed = span-unnamed s traces from until channel k l;
+      none_issued = span-none_issued s traces from until channel k l;
       room = span-room s traces from until channel k l;
     }

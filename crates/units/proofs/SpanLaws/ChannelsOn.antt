@@ -19,7 +19,7 @@ use Rattle.sim_base.proofs.Each.{Each-filter}
 use Rattle.sim_base.proofs.Same.{Stamped}
 use Rattle.sim_base.proofs.Spans.{inbox-stamped}
 use Rattle.statistics.specs.Channels.{channel_stats}
-use Rattle.statistics.specs.Runs.{stats_of_channel, open_rows_left, channel_last, last_of_channel}
+use Rattle.statistics.specs.Runs.{stats_of_channel, open_rows_left, channel_final, final_of_channel}
 use Rattle.statistics.proofs.ChannelCounts.{channel_stats-same}
 use Rattle.statistics.proofs.Messages.{arrived-arrived}
 use Rattle.laws.specs.Commands.{channel_steps_of}
@@ -119,8 +119,8 @@ stats-alike s traces now channel =
     })
 
 last-alike : (s : Config) (traces : List (List Entry)) (now channel : ℕ)
-    → channel_last s channel (channel_steps_of s traces now channel) (mail_before s traces now (unit.Channel channel) now) ≡ last_of_channel s traces (run s traces now) channel
-unfolding last_of_channel channel_last
+    → channel_final s channel (channel_steps_of s traces now channel) (mail_before s traces now (unit.Channel channel) now) ≡ final_of_channel s traces (run s traces now) channel
+unfolding final_of_channel channel_final
 last-alike s traces now channel =
     let steps = channel_steps_of s traces now channel in
     let all = inbox s traces (run s traces now) (unit.Channel channel) in

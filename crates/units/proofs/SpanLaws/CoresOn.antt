@@ -17,13 +17,13 @@ use Rattle.sim_base.proofs.Spans.{length_run}
 use Rattle.sim_base.specs.declared.message.Access.{Access}
 use Rattle.sim_base.specs.declared.message.Access.TheVariants as access
 use Rattle.statistics.specs.Cores.{core_stats}
-use Rattle.statistics.specs.Runs.{stats_of_core, credits_of, core_last, last_of_core}
+use Rattle.statistics.specs.Runs.{stats_of_core, credits_of, core_final, final_of_core}
 use Rattle.statistics.proofs.CoreCounts.{core_stats-same}
 use Rattle.statistics.proofs.Lists.{map_below_same}
 use Rattle.statistics.proofs.Messages.{arrived-arrived}
 use Rattle.statistics.proofs.Replies.{length-steps_of_core}
 use Rattle.laws.proofs.Counting.{count-filter, count-weaker}
-use Rattle.core_window.specs.Fit.{Fit}
+use Rattle.core_window.specs.Fit.{IsFit}
 use Rattle.core_window.specs.Stands.{StandsFor}
 use Rattle.units.specs.SpanLaws.Cores.{core_steps_of, CoresStart, CoresMayRun, CoresGoOn, CoresEndAlike}
 use Rattle.units.specs.SpanLaws.Mail.{mail_before, mail_in}
@@ -36,9 +36,9 @@ cores-start s traces core view h = subst (λ mail. StandsFor s core (trace_of tr
 
 -- the messages of a span are fit after what the run knew before it
 fit-then : (s : Config) (traces : List (List Entry)) (from until core : ℕ) → core < s.cores → from ≤ until
-    → Fit s core (trace_of traces core) (core_steps_of s traces from core) (mail_before s traces from (Core core) from) from until (mail_in s traces until (Core core) from until)
+    → IsFit s core (trace_of traces core) (core_steps_of s traces from core) (mail_before s traces from (Core core) from) from until (mail_in s traces until (Core core) from until)
 fit-then s traces from until core k l =
-    subst (λ mail. Fit s core (trace_of traces core) (core_steps_of s traces from core) mail from until (mail_in s traces until (Core core) from until))
+    subst (λ mail. IsFit s core (trace_of traces core) (core_steps_of s traces from core) mail from until (mail_in s traces until (Core core) from until))
     (mail-settled s traces from until (Core core) l) (messages-fit_spans s traces from until core k l)
 
 pub cores-may_run : (s : Config) (traces : List (List Entry)) (from until : ℕ) → CoresMayRun s traces from until
@@ -102,8 +102,8 @@ stats-alike s traces now core =
     core_stats-same s core (trace_of traces core) steps (arrived all now) all (arrived-arrived (length steps) now (omega arith) all)
 
 last-alike : (s : Config) (traces : List (List Entry)) (now core : ℕ)
-    → core_last s core (trace_of traces core) (core_steps_of s traces now core) (mail_before s traces now (Core core) now) ≡ last_of_core s traces (run s traces now) core
-unfolding last_of_core core_last
+    → core_final s core (trace_of traces core) (core_steps_of s traces now core) (mail_before s traces now (Core core) now) ≡ final_of_core s traces (run s traces now) core
+unfolding final_of_core core_final
 last-alike s traces now core =
     let steps = core_steps_of s traces now core in
     let trace = trace_of traces core in

@@ -20,7 +20,7 @@ use Rattle.sim_base.proofs.Grows.{SentBy, of_core-by, of_channel-by, grow, cores
 use Rattle.sim_base.proofs.Ordered.{Apart, Each-weaker, puts-swap, puts-append, Sorted-puts, filter-by_age, filter-puts}
 use Rattle.sim_base.proofs.Spans.{length_run}
 use Rattle.sim_base.specs.Sends.{sender}
-use Rattle.sim_base.proofs.Lists.{filter-both, filter-each, filter-agree, filter-none}
+use Rattle.sim_base.proofs.Lists.{filter-both, filter-each, filter-agree, filter-none, eqb-swap}
 use Rattle.links.specs.InFlight.{is_due}
 use Rattle.units.specs.SpanLaws.Mail.{arriving}
 use Rattle.units.specs.SpanLaws.FlightInTurns.{is_request, flight_of, left_by_channels, left_by_cores, FlightsMeet, HoldChannelInboxes, HoldCoreInboxes, ChannelsGoFurther, CoresGoFurther, ChannelsGoFurtherFor, CoresGoFurtherFor}
@@ -125,11 +125,7 @@ link-differs x y h k = go (eqb x y) refl
     go true e = absurd (true≢false (sym h ∙ ap (λ z. eqb (z % 3) 0) (eqb-true x y e) ∙ k))
 
 differs-link : (x y : ℕ) → eqb (x % 3) 0 ≡ false → eqb (y % 3) 0 ≡ true → eqb x y ≡ false
-differs-link x y h k = go (eqb x y) refl
-  where
-    go : (b : Bool) → eqb x y ≡ b → b ≡ false
-    go false e = refl
-    go true e = absurd (true≢false (sym k ∙ ap (λ z. eqb (z % 3) 0) (sym (eqb-true x y e)) ∙ h))
+differs-link x y h k = eqb-swap x y ∙ link-differs y x k h
 
 kinds-apart : (xs ys : List Message) → Each (λ (m : Message). is_request m ≡ true) xs → Each (λ (m : Message). is_request m ≡ false) ys → Apart xs ys
 kinds-apart xs ys h k =

@@ -31,7 +31,7 @@ use Rattle.units.proofs.SpanLaws.Silent.{none-part}
 use Rattle.units.proofs.SpanLaws.Later.{IsReceived, messages-received}
 use Rattle.units.specs.SpanLaws.FlightInTurns.{is_request, flight_of, left_by_channels, left_by_cores, ChannelsTakeTheirs, CoresTakeTheirs, LaterStays}
 use Rattle.units.specs.SpanLaws.Sent.{requests_sent, answers_sent, RequestsTravelFor, AnswersTakeFor}
-use Rattle.units.specs.SpanLaws.Turns.{MaySleep, IsInTurns, IsLowered, TurnsBegin, TurnsJump, ChannelsIdle, CoresIdle}
+use Rattle.units.specs.SpanLaws.Turns.{WaitsInTurns, IsInTurns, IsLowered, TurnsBegin, TurnsJump, ChannelsIdle, CoresIdle}
 use Rattle.units.proofs.SpanLaws.Requesting.{requests-each, answers-each, request-to, answer-to}
 use Rattle.units.proofs.SpanLaws.FlightsInTurns.{flights-meet, channels-left, cores-left}
 use Rattle.units.proofs.SpanLaws.Leasts.{request-meets, request-positive}
@@ -63,7 +63,7 @@ requests-none s n e core channel c k = omega arith
 pub answers-none : (s : Config) (n : ℕ) → n ≡ 0 → AnswersTakeFor s n
 answers-none s n e core channel c k = (omega arith, omega arith)
 
-waits-now : (s : Config) (traces : List (List Entry)) (now : ℕ) (u : MachineUnit) → MaySleep s traces now now u now now
+waits-now : (s : Config) (traces : List (List Entry)) (now : ℕ) (u : MachineUnit) → WaitsInTurns s traces now now u now now
 waits-now s traces now (Core core) = record { behind = omega arith; ahead = omega arith; silent = silent-now s traces now (Core core); none = none-now s traces now now (Core core) }
 waits-now s traces now (Channel channel) = record { behind = omega arith; ahead = omega arith; silent = silent-now s traces now (Channel channel); none = none-now s traces now now (Channel channel) }
 
@@ -179,27 +179,27 @@ lowered-nothing s u at wake sent e =
 
 -- a turn of the channels in which none is touched
 pub channels-idle : (s : Config) (traces : List (List Entry)) (a b until : ℕ) → ChannelsIdle s traces a b until
-channels-idle s traces a b until at wake flight l t sleeps h =
+channels-idle s traces a b until at wake flight l t wakes_later h =
     let none : (channel : ℕ) → channel < s.channels → mail_in s traces a (Channel channel) b until ≡ [] =
-    λ channel k. let w = h.wait (Channel channel) k in none-part s traces a (at (Channel channel)) (wake (Channel channel)) b until (Channel channel) w.behind (sleeps channel k) w.none in
+    λ channel k. let w = h.wait (Channel channel) k in none-part s traces a (at (Channel channel)) (wake (Channel channel)) b until (Channel channel) w.behind (wakes_later channel k) w.none in
     let same : left_by_channels until flight ≡ flight = ap (left_by_channels until) h.holds ∙ channels-leave s traces a b until l none ∙ sym h.holds in
     channels-turn s traces a b until at wake at wake flight flight l t h
     (record {
       sent = nothing;
-      go = λ channel k. inl (record { sleeps = sleeps channel k; same_at = refl; same_wake = refl; sends_none = refl });
+      go = λ channel k. inl (record { wakes_later = wakes_later channel k; same_at = refl; same_wake = refl; sends_none = refl });
       stay = λ core k. lowered-nothing s (Core core) (at (Core core)) (wake (Core core)) (flat_map nothing (below s.channels)) (nothing-sent s.channels);
       flight_is = sym same ∙ ap (fold insert_by_age (left_by_channels until flight)) (sym (nothing-sent s.channels));
     })
 
 pub cores-idle : (s : Config) (traces : List (List Entry)) (a b until : ℕ) → CoresIdle s traces a b until
-cores-idle s traces a b until at wake flight l t sleeps h =
+cores-idle s traces a b until at wake flight l t wakes_later h =
     let none : (core : ℕ) → core < s.cores → mail_in s traces b (Core core) a until ≡ [] =
-    λ core k. let w = h.wait (Core core) k in none-part s traces b (at (Core core)) (wake (Core core)) a until (Core core) w.behind (sleeps core k) w.none in
+    λ core k. let w = h.wait (Core core) k in none-part s traces b (at (Core core)) (wake (Core core)) a until (Core core) w.behind (wakes_later core k) w.none in
     let same : left_by_cores until flight ≡ flight = ap (left_by_cores until) h.holds ∙ cores-leave s traces a b until l none ∙ sym h.holds in
     cores-turn s traces a b until at wake at wake flight flight l t h
     (record {
       sent = nothing;
-      go = λ core k. inl (record { sleeps = sleeps core k; same_at = refl; same_wake = refl; sends_none = refl });
+      go = λ core k. inl (record { wakes_later = wakes_later core k; same_at = refl; same_wake = refl; sends_none = refl });
       stay = λ channel k. lowered-nothing s (Channel channel) (at (Channel channel)) (wake (Channel channel)) (flat_map nothing (below s.cores)) (nothing-sent s.cores);
       flight_is = sym same ∙ ap (fold insert_by_age (left_by_cores until flight)) (sym (nothing-sent s.cores));
     })
@@ -207,11 +207,11 @@ cores-idle s traces a b until at wake flight l t sleeps h =
 -- cores and channels go on by a cycle at a time, and none is touched
 steps-on : (s : Config) (traces : List (List Entry)) (now until : ℕ) (at wake : MachineUnit → ℕ) (flight : List Message) → ((unit : MachineUnit) → Exists s unit → until ≤ wake unit)
     → IsInTurns s traces now now at wake flight → (k : ℕ) → now + k ≤ until → IsInTurns s traces (now + k) (now + k) at wake flight
-steps-on s traces now until at wake flight sleeps h zero l = let e : now ≡ now + 0 = omega arith in subst (λ n. IsInTurns s traces n n at wake flight) e h
-steps-on s traces now until at wake flight sleeps h (suc k) l =
+steps-on s traces now until at wake flight wakes_later h zero l = let e : now ≡ now + 0 = omega arith in subst (λ n. IsInTurns s traces n n at wake flight) e h
+steps-on s traces now until at wake flight wakes_later h (suc k) l =
     let n = now + k in
-    let before = steps-on s traces now until at wake flight sleeps h k (omega arith) in
-    let soon : (unit : MachineUnit) → Exists s unit → n + 1 ≤ wake unit = λ unit e. let w = sleeps unit e in omega arith in
+    let before = steps-on s traces now until at wake flight wakes_later h k (omega arith) in
+    let soon : (unit : MachineUnit) → Exists s unit → n + 1 ≤ wake unit = λ unit e. let w = wakes_later unit e in omega arith in
     let e : n + 1 ≡ now + suc k = omega arith in
     let one : RequestsTravelFor s (n + 1 - n) = let p = request-positive s in requests-shorter s _ (n + 1 - n) (omega arith) (request-meets s) in
     subst (λ i. IsInTurns s traces i i at wake flight) e
@@ -220,20 +220,20 @@ steps-on s traces now until at wake flight sleeps h (suc k) l =
 
 jump-from : (s : Config) (traces : List (List Entry)) (now until : ℕ) (at wake : MachineUnit → ℕ) (flight : List Message) → now ≤ until → ((unit : MachineUnit) → Exists s unit → until ≤ wake unit)
     → IsInTurns s traces now now at wake flight → IsInTurns s traces until until at wake flight
-jump-from s traces now until at wake flight l sleeps h =
+jump-from s traces now until at wake flight l wakes_later h =
     let e : now + (until - now) ≡ until = omega arith in
-    subst (λ n. IsInTurns s traces n n at wake flight) e (steps-on s traces now until at wake flight sleeps h (until - now) (omega arith))
+    subst (λ n. IsInTurns s traces n n at wake flight) e (steps-on s traces now until at wake flight wakes_later h (until - now) (omega arith))
 
 pub turns-jump : (s : Config) (traces : List (List Entry)) (a b until : ℕ) → TurnsJump s traces a b until
-turns-jump s traces a b until at wake flight l k sleeps h = go (cases_lt a b)
+turns-jump s traces a b until at wake flight l k wakes_later h = go (cases_lt a b)
   where
     go : (a < b) ⊎ (b ≤ a) → IsInTurns s traces until until at wake flight
     go (inl m) =
-        jump-from s traces b until at wake flight k sleeps
-        (cores-idle s traces a b b at wake flight (omega arith) (answers-none s (b - b) (omega arith)) (λ core e. let w = sleeps (Core core) e in omega arith) h)
+        jump-from s traces b until at wake flight k wakes_later
+        (cores-idle s traces a b b at wake flight (omega arith) (answers-none s (b - b) (omega arith)) (λ core e. let w = wakes_later (Core core) e in omega arith) h)
     go (inr m) =
-        jump-from s traces a until at wake flight l sleeps
-        (channels-idle s traces a b a at wake flight m (requests-none s (a - a) (omega arith)) (λ channel e. let w = sleeps (Channel channel) e in omega arith) h)
+        jump-from s traces a until at wake flight l wakes_later
+        (channels-idle s traces a b a at wake flight m (requests-none s (a - a) (omega arith)) (λ channel e. let w = wakes_later (Channel channel) e in omega arith) h)
 
 -- what a message does that goes to a unit of the kind whose turn it is: it stays just where it arrives later
 stays-one : (has mine late within : Bool) → mine ≡ true → late ≡ true → (has ≡ false → (late && within) ≡ false) → not (has && (late && within)) ≡ not (mine && within)

@@ -1,19 +1,16 @@
 -- How long a run surely lasts: a core retires no more than its width in a cycle, and a message is in flight up to its
 -- arrival.
-use Rattle.std.proofs.Common.{◌≡◌, ℕ, zero, suc, ◌+◌, ◌-◌, ◌*◌, ◌<◌, ◌≤◌, Bool, true, false, cond, ◌&&◌, ◌||◌, List, [], ◌∷◌, length, ap, subst, ◌∙◌, add-zero, add-suc, arith}
-use Rattle.std.specs.Prelude.{count_by, min}
-use Rattle.std.specs.List.{list_any, range_with_len}
+use Rattle.std.proofs.Common.{◌≡◌, ℕ, zero, suc, ◌+◌, ◌-◌, ◌*◌, ◌<◌, ◌≤◌, Bool, true, false, cond, ◌&&◌, ◌||◌, List, [], ◌∷◌, ap, subst, ◌∙◌, add-zero, add-suc, arith}
+use Rattle.std.specs.Prelude.{count_by}
+use Rattle.std.specs.List.{list_any}
 use Rattle.std.proofs.lemmas.Bool.{and_parts, and_from, le-leb, leb-true, false_from_ne_true}
-use Rattle.std.proofs.lemmas.List.Folds.{length-prefix_len, list_any-from_Any}
-use Rattle.std.proofs.lemmas.List.FromFn.{length-range_with_len}
-use Rattle.std.proofs.lemmas.List.Sums.{prefix_len-le-length}
+use Rattle.std.proofs.lemmas.List.Folds.{list_any-from_Any}
 use Rattle.sim_base.specs.declared.config.Config.{Config}
 use Rattle.sim_base.specs.Counts.{in_flight}
-use Rattle.sim_base.specs.History.{trace_of, retired_before, issued_before, messages, inbox}
+use Rattle.sim_base.specs.History.{trace_of, retired_before, messages, inbox}
 use Rattle.sim_base.specs.Machine.{run, next_step, is_over}
 use Rattle.sim_base.specs.Sends.{sends}
-use Rattle.sim_base.specs.Windows.{done_from, is_done, retires, step}
-use Rattle.sim_base.specs.declared.history.CoreStep.{CoreStep}
+use Rattle.sim_base.specs.Windows.{step}
 use Rattle.sim_base.specs.declared.message.Message.{Message}
 use Rattle.sim_base.specs.declared.message.Unit.TheVariants.{Core}
 use Rattle.sim_base.specs.declared.trace.Entry.{Entry}
@@ -26,14 +23,7 @@ use Rattle.units.specs.SpanLaws.Cores.{core_steps_of}
 use Rattle.units.specs.SpanLaws.Ends.{RetiresByWidth, FlightStays, LastsForTrace, LastsForFlight}
 use Rattle.units.proofs.SpanLaws.Flights.{not_before, in_flight-late}
 use Rattle.units.proofs.SpanLaws.Over.{over-is_seen}
-
-retires-le_width : (s : Config) (trace : List Entry) (steps : List CoreStep) (mail : List Message) → retires s trace steps mail ≤ s.width
-unfolding retires done_from
-retires-le_width s trace steps mail =
-    let first = retired_before steps in
-    let most = min s.width (issued_before steps - first) in
-    let p = is_done trace mail (length steps) in
-    omega (arith, length-prefix_len p (range_with_len first most), prefix_len-le-length p (range_with_len first most), length-range_with_len first most)
+use Rattle.statistics.proofs.KeepsToTrace.{retires-le}
 
 -- in one cycle
 retired-next : (s : Config) (traces : List (List Entry)) (n core : ℕ) → core < s.cores
@@ -45,7 +35,7 @@ retired-next s traces n core l =
     let row = (step s core (trace_of traces core) steps mail).0 in
     let e : retired_before (core_steps_of s traces (suc n) core) ≡ retired_before steps + row.retired =
     ap retired_before (steps_of_core-next s traces n core l) ∙ retired_before-push steps row in
-    let few : row.retired ≤ s.width = retires-le_width s (trace_of traces core) steps mail in
+    let few : row.retired ≤ s.width = omega (arith, retires-le s (trace_of traces core) steps mail) in
     omega arith
 
 -- in some cycles

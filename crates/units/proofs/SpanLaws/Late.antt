@@ -1,24 +1,22 @@
 -- What cores send in some cycles arrives no sooner than the least latency of a request later; what channels send, no
 -- sooner than the least way back.
-use Rattle.std.proofs.Common.{◌≡◌, ℕ, zero, suc, ◌+◌, ◌*◌, ◌-◌, ◌<◌, ◌≤◌, List, ◌++◌, length, take, drop, Option, Some, None, ap, ◌∙◌, add-zero, add-suc, arith}
+use Rattle.std.proofs.Common.{◌≡◌, ℕ, zero, suc, ◌+◌, ◌*◌, ◌-◌, ◌<◌, ◌≤◌, List, ◌++◌, length, Option, Some, None, ap, ◌∙◌, add-zero, add-suc, arith}
 use Rattle.std.specs.Option.{IfSome}
-use Rattle.std.specs.List.{enumerate_from}
 use Rattle.std.proofs.lemmas.List.Elements.{All-from_recursion}
 use Rattle.sim_base.specs.declared.config.Config.{Config}
 use Rattle.sim_base.specs.Config.{request_link, reply_link, credit_link, latency}
 use Rattle.sim_base.specs.Places.{place_of}
-use Rattle.sim_base.specs.History.{trace_of, request, request_of, requests_between, reply, credit, messages_of, messages_at, channel_messages, messages_of_core, messages_of_channel}
+use Rattle.sim_base.specs.History.{trace_of, reply, credit, messages_of, messages_at, channel_messages, messages_of_core, messages_of_channel}
 use Rattle.sim_base.specs.Machine.{run}
 use Rattle.sim_base.specs.declared.command.Command.{Command}
 use Rattle.sim_base.specs.declared.command.Command.TheVariants.{Act, Rd, Wr, Pre, Prea, Ref}
 use Rattle.sim_base.specs.declared.message.Message.{Message}
 use Rattle.sim_base.specs.declared.trace.Entry.{Entry}
-use Rattle.sim_base.specs.declared.trace.Entry.TheVariants.{Plain, Read, Write}
 use Rattle.sim_base.specs.Machine.{next_step}
 use Rattle.sim_base.specs.Sends.{core_sends}
-use Rattle.sim_base.proofs.Added.{ServesCoreBelow, link_below, channel_messages-push}
+use Rattle.sim_base.proofs.Added.{ServesCoreBelow, channel_messages-push, between_late}
+use Rattle.sim_base.proofs.LinkNumbers.{link_below}
 use Rattle.sim_base.proofs.Arrived.{NotBefore}
-use Rattle.sim_base.proofs.Each.{Each-all, Each-filter_map}
 use Rattle.sim_base.proofs.Grows.{core-grows}
 use Rattle.sim_base.proofs.Spans.{length_run}
 use Rattle.laws.specs.Commands.{channel_steps_of}
@@ -26,24 +24,6 @@ use Rattle.laws.proofs.Legal.{chosen, channel_steps_of-more, length-channel_step
 use Rattle.laws.proofs.Receivers.{place_in}
 use Rattle.units.specs.SpanLaws.Sent.{RequestsTravelFor, AnswersTakeFor, PhasesAreTurns, RequestsAreLate, AnswersAreLate}
 use Rattle.units.proofs.SpanLaws.Later.{GrowsLate, grows-none, grows-again, grows-late, chosen-below}
-
-request-late : (s : Config) (core cycle n u : ℕ) → core < s.cores → RequestsTravelFor s n → u ≤ cycle + n
-    → (e : ℕ × Entry) → IfSome (request_of s core cycle e.0 e.1) (λ (m : Message). u ≤ m.arrival)
-unfolding request
-request-late s core cycle n u h t k (entry, Plain) = tt
-request-late s core cycle n u h t k (entry, Read address) =
-    let a : n ≤ latency s (request_link s core (place_of s address).channel) = t core (place_of s address).channel h (place_in s address) in
-    omega arith
-request-late s core cycle n u h t k (entry, Write address) =
-    let a : n ≤ latency s (request_link s core (place_of s address).channel) = t core (place_of s address).channel h (place_in s address) in
-    omega arith
-
-between-late : (s : Config) (core : ℕ) (trace : List Entry) (cycle first end n u : ℕ) → core < s.cores → RequestsTravelFor s n → u ≤ cycle + n
-    → NotBefore u (requests_between s core trace cycle first end)
-unfolding requests_between
-between-late s core trace cycle first end n u h t k =
-    let es = take (end - first) (drop first (enumerate_from 0 trace)) in
-    Each-filter_map (λ (m : Message). u ≤ m.arrival) (λ e. request_of s core cycle e.0 e.1) es (Each-all _ (request-late s core cycle n u h t k) es)
 
 command-late : (s : Config) (channel cycle n u : ℕ) → channel < s.channels → AnswersTakeFor s n → u ≤ cycle + n
     → (o : Option Command) → IfSome o (ServesCoreBelow s.cores) → NotBefore u (messages_at s channel cycle o)
@@ -75,7 +55,7 @@ core-late s traces from n u core k t b (suc m) =
     (core_sends s traces history (next_step s traces history) core)
     (core-late s traces from n u core k t b m)
     (ap (λ i. messages_of_core s traces (run s traces i) core) (add-suc from m) ∙ core-grows s traces history (next_step s traces history) core)
-    (between-late s core (trace_of traces core) (length history) _ _ n u k t (omega arith))
+    (between_late s core (trace_of traces core) (length history) _ _ n u (λ address. t core (place_of s address).channel k (place_in s address)) (omega arith))
 
 -- what a channel sends in them
 pub channel-late : (s : Config) (traces : List (List Entry)) (from n u channel : ℕ) → channel < s.channels → AnswersTakeFor s n → u ≤ from + n → (m : ℕ)

@@ -4,7 +4,7 @@ use Rattle.std.proofs.lemmas.Bool.{cases_lt}
 use Rattle.std.proofs.Math.Nat.{mul_assoc, mul_comm, div-add-mod, mod-lt, div-lt_iff_lt-mul}
 use Rattle.sim_base.specs.declared.config.Config.{Config}
 use Rattle.sim_base.specs.Config.{request_link, reply_link, credit_link, latency}
-use Rattle.sim_base.proofs.Added.{link_below}
+use Rattle.sim_base.proofs.LinkNumbers.{link_below}
 use Rattle.links.specs.Latencies.{least_of_kind}
 use Rattle.links.proofs.Overrides.{kind_latency}
 use Rattle.links.proofs.Shortest.{least-meets, least-attained, positive-at}

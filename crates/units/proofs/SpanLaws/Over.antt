@@ -36,7 +36,7 @@ use Rattle.laws.proofs.Chosen.{choice-needed}
 use Rattle.laws.proofs.Counting.{Each-list_all}
 use Rattle.laws.proofs.Legal.{chosen, length-channel_steps_of, history_of-more}
 use Rattle.laws.proofs.Sent.{Each-messages, sends-each}
-use Rattle.channel_step.specs.Past.{requests_of}
+use Rattle.channel_step.specs.Past.{carried_requests}
 use Rattle.channel_step.proofs.Requests.{requests-arrived, ArrivedBefore, queued_requests-until, queued_requests-command, unserved_by}
 use Rattle.channel_step.proofs.Spans.{queue-next}
 use Rattle.units.specs.SpanLaws.Cores.{core_steps_of}
@@ -141,7 +141,7 @@ core-silent s traces n core l h =
 
 -- nothing waits at a channel
 all-arrived : (s : Config) (traces : List (List Entry)) (n channel : ℕ) → channel < s.channels → Over s traces n
-    → Each (ArrivedBefore n) (requests_of (inbox s traces (run s traces n) (Channel channel)))
+    → Each (ArrivedBefore n) (carried_requests (inbox s traces (run s traces n) (Channel channel)))
 unfolding inbox
 all-arrived s traces n channel l h =
     let sent = messages s traces (run s traces n) in

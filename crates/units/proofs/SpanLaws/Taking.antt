@@ -23,7 +23,7 @@ use Rattle.units.proofs.SpanLaws.Arrivals.{mail-sent}
 use Rattle.units.proofs.SpanLaws.Silent.{silent-sooner, none-part, none-first, silent-sent}
 use Rattle.units.specs.SpanLaws.FlightInTurns.{is_request, flight_of, left_by_channels, left_by_cores}
 use Rattle.units.specs.SpanLaws.Sent.{requests_sent, answers_sent, RequestsTravelFor, AnswersTakeFor}
-use Rattle.units.specs.SpanLaws.Turns.{MaySleep, StaysAsleep, IsRunOn, IsLowered, ChannelsAreReady, CoresAreReady, ChannelsTurn, CoresTurn, ChannelGoes, CoreGoes, ChannelStays, CoreStays}
+use Rattle.units.specs.SpanLaws.Turns.{WaitsInTurns, IsLeftAlone, IsRunOn, IsLowered, ChannelsAreReady, CoresAreReady, ChannelsTurn, CoresTurn, ChannelGoes, CoreGoes, ChannelStays, CoreStays}
 use Rattle.units.proofs.SpanLaws.Late.{core-sent_late, channel-sent_late}
 use Rattle.units.proofs.SpanLaws.Requesting.{requests-each, answers-each, request-to, answer-to, to-channel, to-core}
 use Rattle.units.proofs.SpanLaws.Knowing.{requests-known, answers-known}
@@ -116,13 +116,13 @@ core-due s traces a b from until core l =
 
 -- a channel that waits sends nothing up to a cycle before its word, within the horizon
 channel-quiet : (s : Config) (traces : List (List Entry)) (a b until channel at wake : ℕ) → channel < s.channels → RequestsTravelFor s (until - a) → at ≤ until → until ≤ wake
-    → MaySleep s traces a b (Channel channel) at wake → messages_of_channel s (run s traces until) channel ≡ messages_of_channel s (run s traces at) channel
+    → WaitsInTurns s traces a b (Channel channel) at wake → messages_of_channel s (run s traces until) channel ≡ messages_of_channel s (run s traces at) channel
 channel-quiet s traces a b until channel at wake k t l w h =
     silent-sent s traces at until (Channel channel) k l (silent-sooner s traces at until wake (Channel channel) w h.silent)
     (channel-horizon s traces a at until channel t ∙ none-part s traces a at wake at until (Channel channel) (omega arith) w h.none)
 
 core-quiet : (s : Config) (traces : List (List Entry)) (a b until core at wake : ℕ) → core < s.cores → AnswersTakeFor s (until - b) → at ≤ until → until ≤ wake
-    → MaySleep s traces a b (Core core) at wake → messages_of_core s traces (run s traces until) core ≡ messages_of_core s traces (run s traces at) core
+    → WaitsInTurns s traces a b (Core core) at wake → messages_of_core s traces (run s traces until) core ≡ messages_of_core s traces (run s traces at) core
 core-quiet s traces a b until core at wake k t l w h =
     silent-sent s traces at until (Core core) k l (silent-sooner s traces at until wake (Core core) w h.silent)
     (core-horizon s traces b at until core t ∙ none-part s traces b at wake at until (Core core) (omega arith) w h.none)
@@ -176,8 +176,8 @@ lowered-none s u at wake at_then wake_then from sent h =
 
 -- a core in a turn of the channels
 core-stays : (s : Config) (traces : List (List Entry)) (a b until core at wake at_then wake_then : ℕ) (sent : ℕ → List Message) → ChannelsSent s traces b until sent
-    → All (λ m. a ≤ m.arrival) (flat_map sent (below s.channels)) → MaySleep s traces a b (Core core) at wake
-    → IsLowered s (Core core) at wake at_then wake_then (flat_map sent (below s.channels)) → MaySleep s traces a until (Core core) at_then wake_then
+    → All (λ m. a ≤ m.arrival) (flat_map sent (below s.channels)) → WaitsInTurns s traces a b (Core core) at wake
+    → IsLowered s (Core core) at wake at_then wake_then (flat_map sent (below s.channels)) → WaitsInTurns s traces a until (Core core) at_then wake_then
 core-stays s traces a b until core at wake at_then wake_then sent grown late w h =
     let u = Core core in
     let new = flat_map sent (below s.channels) in
@@ -187,13 +187,13 @@ core-stays s traces a b until core at wake at_then wake_then sent grown late w h
     let none : mail_in s traces until u at wake_then ≡ [] =
     core-mail s traces until at wake_then core
     ∙ none-more q (answers_sent s traces b) (answers_sent s traces until) new (answers-more s traces b until sent grown) (lowered-none s u at wake at_then wake_then at new h) before in
-    subst (λ x. MaySleep s traces a until u x wake_then) (sym h.stays)
+    subst (λ x. WaitsInTurns s traces a until u x wake_then) (sym h.stays)
     (record { behind = w.behind; ahead = h.no_further a w.ahead late; silent = silent-sooner s traces at wake_then wake u h.less w.silent; none = none })
 
 -- a channel in a turn of the cores
 channel-stays : (s : Config) (traces : List (List Entry)) (a b until channel at wake at_then wake_then : ℕ) (sent : ℕ → List Message) → CoresSent s traces a until sent
-    → All (λ m. b ≤ m.arrival) (flat_map sent (below s.cores)) → MaySleep s traces a b (Channel channel) at wake
-    → IsLowered s (Channel channel) at wake at_then wake_then (flat_map sent (below s.cores)) → MaySleep s traces until b (Channel channel) at_then wake_then
+    → All (λ m. b ≤ m.arrival) (flat_map sent (below s.cores)) → WaitsInTurns s traces a b (Channel channel) at wake
+    → IsLowered s (Channel channel) at wake at_then wake_then (flat_map sent (below s.cores)) → WaitsInTurns s traces until b (Channel channel) at_then wake_then
 channel-stays s traces a b until channel at wake at_then wake_then sent grown late w h =
     let u = Channel channel in
     let new = flat_map sent (below s.cores) in
@@ -203,20 +203,20 @@ channel-stays s traces a b until channel at wake at_then wake_then sent grown la
     let none : mail_in s traces until u at wake_then ≡ [] =
     channel-mail s traces until at wake_then channel
     ∙ none-more q (requests_sent s traces a) (requests_sent s traces until) new (requests-more s traces a until sent grown) (lowered-none s u at wake at_then wake_then at new h) before in
-    subst (λ x. MaySleep s traces until b u x wake_then) (sym h.stays)
+    subst (λ x. WaitsInTurns s traces until b u x wake_then) (sym h.stays)
     (record { behind = w.behind; ahead = h.no_further b w.ahead late; silent = silent-sooner s traces at wake_then wake u h.less w.silent; none = none })
 
 -- a channel in its own turn waits again
 channel-goes : (s : Config) (traces : List (List Entry)) (a b until channel at wake at_then wake_then : ℕ) (flight sent : List Message) → b ≤ until → flight ≡ flight_of s traces a b
-    → MaySleep s traces a b (Channel channel) at wake
-    → StaysAsleep until at wake at_then wake_then sent ⊎ IsRunOn s traces (Channel channel) until at at_then wake_then flight sent
-    → MaySleep s traces a until (Channel channel) at_then wake_then
+    → WaitsInTurns s traces a b (Channel channel) at wake
+    → IsLeftAlone until at wake at_then wake_then sent ⊎ IsRunOn s traces (Channel channel) until at at_then wake_then flight sent
+    → WaitsInTurns s traces a until (Channel channel) at_then wake_then
 channel-goes s traces a b until channel at wake at_then wake_then flight sent l holds w (inl h) =
     let behind : at ≤ b = w.behind in
-    subst (λ x. MaySleep s traces a until (Channel channel) x wake_then) (sym h.same_at)
-    (subst (λ y. MaySleep s traces a until (Channel channel) at y) (sym h.same_wake) (record { behind = omega arith; ahead = h.sleeps; silent = w.silent; none = w.none }))
+    subst (λ x. WaitsInTurns s traces a until (Channel channel) x wake_then) (sym h.same_at)
+    (subst (λ y. WaitsInTurns s traces a until (Channel channel) at y) (sym h.same_wake) (record { behind = omega arith; ahead = h.wakes_later; silent = w.silent; none = w.none }))
 channel-goes s traces a b until channel at wake at_then wake_then flight sent l holds w (inr h) =
-    subst (λ x. MaySleep s traces a until (Channel channel) x wake_then) (sym h.stands)
+    subst (λ x. WaitsInTurns s traces a until (Channel channel) x wake_then) (sym h.stands)
     (record {
       behind = omega arith;
       ahead = h.since;
@@ -225,15 +225,15 @@ channel-goes s traces a b until channel at wake at_then wake_then flight sent l 
     })
 
 core-goes : (s : Config) (traces : List (List Entry)) (a b until core at wake at_then wake_then : ℕ) (flight sent : List Message) → a ≤ until → flight ≡ flight_of s traces a b
-    → MaySleep s traces a b (Core core) at wake
-    → StaysAsleep until at wake at_then wake_then sent ⊎ IsRunOn s traces (Core core) until at at_then wake_then flight sent
-    → MaySleep s traces until b (Core core) at_then wake_then
+    → WaitsInTurns s traces a b (Core core) at wake
+    → IsLeftAlone until at wake at_then wake_then sent ⊎ IsRunOn s traces (Core core) until at at_then wake_then flight sent
+    → WaitsInTurns s traces until b (Core core) at_then wake_then
 core-goes s traces a b until core at wake at_then wake_then flight sent l holds w (inl h) =
     let behind : at ≤ a = w.behind in
-    subst (λ x. MaySleep s traces until b (Core core) x wake_then) (sym h.same_at)
-    (subst (λ y. MaySleep s traces until b (Core core) at y) (sym h.same_wake) (record { behind = omega arith; ahead = h.sleeps; silent = w.silent; none = w.none }))
+    subst (λ x. WaitsInTurns s traces until b (Core core) x wake_then) (sym h.same_at)
+    (subst (λ y. WaitsInTurns s traces until b (Core core) at y) (sym h.same_wake) (record { behind = omega arith; ahead = h.wakes_later; silent = w.silent; none = w.none }))
 core-goes s traces a b until core at wake at_then wake_then flight sent l holds w (inr h) =
-    subst (λ x. MaySleep s traces until b (Core core) x wake_then) (sym h.stands)
+    subst (λ x. WaitsInTurns s traces until b (Core core) x wake_then) (sym h.stands)
     (record {
       behind = omega arith;
       ahead = h.since;
@@ -243,12 +243,12 @@ core-goes s traces a b until core at wake at_then wake_then flight sent l holds 
 
 -- what a channel sent grows in its own turn by what it sends
 channel-grows : (s : Config) (traces : List (List Entry)) (a b until channel at wake at_then wake_then : ℕ) (flight sent : List Message) → channel < s.channels → b ≤ until
-    → RequestsTravelFor s (b - a) → RequestsTravelFor s (until - a) → MaySleep s traces a b (Channel channel) at wake
-    → StaysAsleep until at wake at_then wake_then sent ⊎ IsRunOn s traces (Channel channel) until at at_then wake_then flight sent
+    → RequestsTravelFor s (b - a) → RequestsTravelFor s (until - a) → WaitsInTurns s traces a b (Channel channel) at wake
+    → IsLeftAlone until at wake at_then wake_then sent ⊎ IsRunOn s traces (Channel channel) until at at_then wake_then flight sent
     → messages_of_channel s (run s traces until) channel ≡ messages_of_channel s (run s traces b) channel ++ sent
 channel-grows s traces a b until channel at wake at_then wake_then flight sent k l near t w (inl h) =
     let behind : at ≤ b = w.behind in
-    channel-quiet s traces a b until channel at wake k t (omega arith) h.sleeps w
+    channel-quiet s traces a b until channel at wake k t (omega arith) h.wakes_later w
     ∙ sym (channel-quiet s traces a b b channel at wake k near behind w.ahead w)
     ∙ sym (append-nil _)
     ∙ ap (λ x. messages_of_channel s (run s traces b) channel ++ x) (sym h.sends_none)
@@ -256,12 +256,12 @@ channel-grows s traces a b until channel at wake at_then wake_then flight sent k
     h.sends ∙ ap (λ x. x ++ sent) (sym (channel-quiet s traces a b b channel at wake k near w.behind w.ahead w))
 
 core-grows : (s : Config) (traces : List (List Entry)) (a b until core at wake at_then wake_then : ℕ) (flight sent : List Message) → core < s.cores → a ≤ until
-    → AnswersTakeFor s (a - b) → AnswersTakeFor s (until - b) → MaySleep s traces a b (Core core) at wake
-    → StaysAsleep until at wake at_then wake_then sent ⊎ IsRunOn s traces (Core core) until at at_then wake_then flight sent
+    → AnswersTakeFor s (a - b) → AnswersTakeFor s (until - b) → WaitsInTurns s traces a b (Core core) at wake
+    → IsLeftAlone until at wake at_then wake_then sent ⊎ IsRunOn s traces (Core core) until at at_then wake_then flight sent
     → messages_of_core s traces (run s traces until) core ≡ messages_of_core s traces (run s traces a) core ++ sent
 core-grows s traces a b until core at wake at_then wake_then flight sent k l near t w (inl h) =
     let behind : at ≤ a = w.behind in
-    core-quiet s traces a b until core at wake k t (omega arith) h.sleeps w
+    core-quiet s traces a b until core at wake k t (omega arith) h.wakes_later w
     ∙ sym (core-quiet s traces a b a core at wake k near behind w.ahead w)
     ∙ sym (append-nil _)
     ∙ ap (λ x. messages_of_core s traces (run s traces a) core ++ x) (sym h.sends_none)
@@ -325,7 +325,7 @@ channels-turn s traces a b until at wake at_then wake_then flight flight_then l 
     }
   where
     waiting : ChannelsSent s traces b until g.sent → All (λ m. a ≤ m.arrival) (flat_map g.sent (below s.channels))
-        → (unit : MachineUnit) → Exists s unit → MaySleep s traces a until unit (at_then unit) (wake_then unit)
+        → (unit : MachineUnit) → Exists s unit → WaitsInTurns s traces a until unit (at_then unit) (wake_then unit)
     waiting grown late (Core core) k =
         core-stays s traces a b until core (at (Core core)) (wake (Core core)) (at_then (Core core)) (wake_then (Core core)) g.sent grown late (h.wait (Core core) k) (g.stay core k)
     waiting grown late (Channel channel) k =
@@ -347,7 +347,7 @@ cores-turn s traces a b until at wake at_then wake_then flight flight_then l t h
     }
   where
     waiting : CoresSent s traces a until g.sent → All (λ m. b ≤ m.arrival) (flat_map g.sent (below s.cores))
-        → (unit : MachineUnit) → Exists s unit → MaySleep s traces until b unit (at_then unit) (wake_then unit)
+        → (unit : MachineUnit) → Exists s unit → WaitsInTurns s traces until b unit (at_then unit) (wake_then unit)
     waiting grown late (Channel channel) k =
         channel-stays s traces a b until channel (at (Channel channel)) (wake (Channel channel)) (at_then (Channel channel)) (wake_then (Channel channel)) g.sent grown late (h.wait (Channel channel) k) (g.stay channel k)
     waiting grown late (Core core) k =

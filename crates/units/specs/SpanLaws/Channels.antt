@@ -1,6 +1,7 @@
 -- The channels of a run, each run alone, span by span.
 --     RequestsFitSpans s traces from until      the requests that come to a channel in a span are fit for it
 --     ChannelsRunAlone s traces from until      from these requests the channel alone does what it does in the run
+--     ChannelRunsOver c inbox from until d ..      a channel goes over a span, for each past that it may have
 --     IsChannelAt s traces channel now c      a channel stands for what it did in the first cycles of a run
 --     DoesAsInRun s traces channel from until c ..      what a channel leaves after a span is its part of the run
 --     ChannelsStart, ChannelsMayRun, ChannelsGoOn      a channel stands for its part at first, and from span to span
@@ -14,7 +15,7 @@ use Rattle.sim_base.specs.declared.message.Message.{Message}
 use Rattle.sim_base.specs.declared.message.Unit.TheVariants as unit
 use Rattle.sim_base.specs.declared.trace.Entry.{Entry}
 use Rattle.statistics.specs.Channels.{channel_stats}
-use Rattle.statistics.specs.Runs.{stats_of_channel, channel_last, last_of_channel}
+use Rattle.statistics.specs.Runs.{stats_of_channel, channel_final, final_of_channel}
 use Rattle.laws.specs.Commands.{channel_steps_of, history_of}
 use Rattle.channel_step.specs.Channels.{StandsFor, ForPasts}
 use Rattle.channel_step.specs.Fit.{IsFit, IsFitAfter}
@@ -45,18 +46,21 @@ abbrev pub IsChannelAt : Config → List (List Entry) → ℕ → ℕ → Channe
 IsChannelAt s traces channel now c =
     StandsFor c s channel (channel_steps_of s traces now channel) (mail_before s traces now (unit.Channel channel) now)
 
--- what a channel makes of a span, and which lists it turns into which: for each past that the channel may have, if
--- these messages are fit for the span after it
-abbrev pub Gives : Channel → List Message → ℕ → ℕ → Channel → Option (List IssuedCommand) → Option (List IssuedCommand)
+-- what a channel becomes that is run over a span, and what its commands and messages make of two lists: for each past
+-- of `from` cycles that the channel may have, if these messages are fit for the span after it
+abbrev pub ChannelRunsOver : Channel → List Message → ℕ → ℕ → Channel → Option (List IssuedCommand)
+    → Option (List IssuedCommand)
     → List Message → List Message → Type 0
-Gives c inbox from until d commands commands_then messages messages_then =
+ChannelRunsOver c inbox from until d commands commands_then messages messages_then =
     ForPasts c
-    (λ past. length past.steps ≡ from → IsFitAfter past inbox from until → IsDoneAfter d past inbox from until commands commands_then messages messages_then)
+    (λ past. length past.steps ≡ from → IsFitAfter past inbox from until
+    → IsDoneAfter d past inbox from until commands commands_then messages messages_then)
 
 -- A channel did what the one with this number did in a span of a run: it stands at the end of the span, and the
 -- commands, where they are kept, and the messages of the run beyond those before the span were put behind what two
 -- lists held.
-pub record DoesAsInRun (s : Config) (traces : List (List Entry)) (channel from until : ℕ) (c : Channel) (commands commands_then : Option (List IssuedCommand)) (messages messages_then : List Message) : Type 0 where
+pub record DoesAsInRun (s : Config) (traces : List (List Entry)) (channel from until : ℕ) (c : Channel)
+    (commands commands_then : Option (List IssuedCommand)) (messages messages_then : List Message) : Type 0 where
   pub issued : List IssuedCommand
   pub sent : List Message
   pub stands : IsChannelAt s traces channel until c
@@ -82,13 +86,17 @@ ChannelsGoOn s traces from until =
     (channel : ℕ) (c d : Channel) (commands commands_then : Option (List IssuedCommand))
     (messages messages_then : List Message)
     → channel < s.channels → from ≤ until → IsChannelAt s traces channel from c
-    → Gives c (mail_in s traces until (unit.Channel channel) from until) from until d commands commands_then messages
-    messages_then
+    → ChannelRunsOver c (mail_in s traces until (unit.Channel channel) from until) from until d
+    commands commands_then messages messages_then
     → DoesAsInRun s traces channel from until d commands commands_then messages messages_then
 
 -- the statistics and the state of what a channel did, and of what arrived at it, are those of the run
 abbrev pub ChannelsEndAlike : Config → List (List Entry) → ℕ → Type 0
 ChannelsEndAlike s traces now =
     (channel : ℕ)
-    → (channel_stats s channel (channel_steps_of s traces now channel) (mail_before s traces now (unit.Channel channel) now) ≡ stats_of_channel s traces (run s traces now) channel)
-    × (channel_last s channel (channel_steps_of s traces now channel) (mail_before s traces now (unit.Channel channel) now) ≡ last_of_channel s traces (run s traces now) channel)
+    → (channel_stats s channel (channel_steps_of s traces now channel)
+    (mail_before s traces now (unit.Channel channel) now)
+    ≡ stats_of_channel s traces (run s traces now) channel)
+    × (channel_final s channel (channel_steps_of s traces now channel)
+    (mail_before s traces now (unit.Channel channel) now)
+    ≡ final_of_channel s traces (run s traces now) channel)

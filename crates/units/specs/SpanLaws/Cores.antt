@@ -14,8 +14,8 @@ use Rattle.sim_base.specs.declared.message.Message.{Message}
 use Rattle.sim_base.specs.declared.message.Unit.TheVariants.{Core}
 use Rattle.sim_base.specs.declared.trace.Entry.{Entry}
 use Rattle.statistics.specs.Cores.{core_stats}
-use Rattle.statistics.specs.Runs.{stats_of_core, core_last, last_of_core}
-use Rattle.core_window.specs.Fit.{Fit, MayRun, Runs}
+use Rattle.statistics.specs.Runs.{stats_of_core, core_final, final_of_core}
+use Rattle.core_window.specs.Fit.{IsFit, CanRun, RunsOver}
 use Rattle.core_window.specs.Stands.{StandsFor}
 use Rattle.core_window.specs.Views.{CoreView}
 use Rattle.units.specs.SpanLaws.Mail.{mail_before, mail_in}
@@ -28,7 +28,8 @@ core_steps_of s traces n core = steps_of_core core (run s traces n)
 abbrev pub MessagesFitSpans : Config → List (List Entry) → ℕ → ℕ → Type 0
 MessagesFitSpans s traces from until =
     (core : ℕ) → core < s.cores → from ≤ until
-    → Fit s core (trace_of traces core) (core_steps_of s traces from core) (mail_before s traces until (Core core) from)
+    → IsFit s core (trace_of traces core) (core_steps_of s traces from core)
+    (mail_before s traces until (Core core) from)
     from until (mail_in s traces until (Core core) from until)
 
 -- from the replies and credits that come to a core in a span the core alone does in the span what it does in the run
@@ -55,14 +56,14 @@ CoresStart s traces =
 abbrev pub CoresMayRun : Config → List (List Entry) → ℕ → ℕ → Type 0
 CoresMayRun s traces from until =
     (core : ℕ) (view : CoreView) → core < s.cores → from ≤ until → IsCoreAt s traces core from view
-    → MayRun view from until (mail_in s traces until (Core core) from until)
+    → CanRun view from until (mail_in s traces until (Core core) from until)
 
 -- a core that is run over a span stands for its part of the longer run, and what it sent is what the run sends more
 abbrev pub CoresGoOn : Config → List (List Entry) → ℕ → ℕ → Type 0
 CoresGoOn s traces from until =
     (core : ℕ) (before after : CoreView) (sent : List Message) → core < s.cores → from ≤ until
     → IsCoreAt s traces core from before
-    → Runs before from until (mail_in s traces until (Core core) from until) after sent
+    → RunsOver before from until (mail_in s traces until (Core core) from until) after sent
     → IsCoreAt s traces core until after
     × (messages_of_core s traces (run s traces until) core ≡ messages_of_core s traces (run s traces from) core ++ sent)
 
@@ -70,5 +71,9 @@ CoresGoOn s traces from until =
 abbrev pub CoresEndAlike : Config → List (List Entry) → ℕ → Type 0
 CoresEndAlike s traces now =
     (core : ℕ)
-    → (core_stats s core (trace_of traces core) (core_steps_of s traces now core) (mail_before s traces now (Core core) now) ≡ stats_of_core s traces (run s traces now) core)
-    × (core_last s core (trace_of traces core) (core_steps_of s traces now core) (mail_before s traces now (Core core) now) ≡ last_of_core s traces (run s traces now) core)
+    → (core_stats s core (trace_of traces core) (core_steps_of s traces now core)
+    (mail_before s traces now (Core core) now)
+    ≡ stats_of_core s traces (run s traces now) core)
+    × (core_final s core (trace_of traces core) (core_steps_of s traces now core)
+    (mail_before s traces now (Core core) now)
+    ≡ final_of_core s traces (run s traces now) core)

@@ -1,8 +1,8 @@
 -- The end of a run, which may lie within a span.
 --     RunsStayOver s traces from until      a run that is over stays over
 --     OverIsSeen s traces now      a run is over where all is retired, nothing is in flight and no request waits
---     CyclesAreCounted s traces limit n      a run has n cycles where it ends before cycle n, and no sooner
---     RetiresByWidth s traces from until      a core retires no more than its width in a cycle
+--     CyclesAreCounted s traces limit n      a run has n cycles where n is the limit or it ends before n, and no sooner
+--     RetiresByWidth s traces from until      a core retires no more in a span than its width times the cycles
 --     FlightStays s traces from until      a message in flight stays in flight up to its arrival
 --     LastsForTrace s traces from until      a run lasts until each core can have retired its trace
 --     LastsForFlight s traces from until      a run lasts until each message has arrived
@@ -32,7 +32,9 @@ OverIsSeen s traces now =
     is_over s traces (run s traces now) ≡ true
     ↔ (((core : ℕ) → core < s.cores → retired_before (core_steps_of s traces now core) ≡ length (trace_of traces core))
     × (in_flight s traces (run s traces now) ≡ [])
-    × ((channel : ℕ) → channel < s.channels → queue_left channel (channel_steps_of s traces now channel) (mail_before s traces now (Channel channel) now) ≡ []))
+    × ((channel : ℕ) → channel < s.channels
+    → queue_left channel (channel_steps_of s traces now channel) (mail_before s traces now (Channel channel) now)
+    ≡ []))
 
 -- Where a run does not end before the last of n cycles, and n is the limit or the run ends before cycle n, it has n
 -- cycles.
@@ -41,7 +43,7 @@ CyclesAreCounted s traces limit n =
     n ≤ limit → ((last : ℕ) → last + 1 ≡ n → ends_before s traces last ≡ false)
     → (n < limit → ends_before s traces n ≡ true) → cycles_run s traces limit ≡ n
 
--- in each cycle a core retires no more entries than its width
+-- in a span a core retires no more entries than its width times the cycles of the span
 abbrev pub RetiresByWidth : Config → List (List Entry) → ℕ → ℕ → Type 0
 RetiresByWidth s traces from until =
     (core : ℕ) → core < s.cores → from ≤ until

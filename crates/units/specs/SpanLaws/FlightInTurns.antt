@@ -28,7 +28,8 @@ use Rattle.units.specs.SpanLaws.Sent.{requests_sent, answers_sent, RequestsTrave
 abbrev pub flight_of : Config → List (List Entry) → ℕ → ℕ → List Message
 flight_of s traces a b =
     by_age
-    (filter (λ m. nat_le b m.arrival) (requests_sent s traces a) ++ filter (λ m. nat_le a m.arrival) (answers_sent s traces b))
+    (filter (λ m. nat_le b m.arrival) (requests_sent s traces a)
+    ++ filter (λ m. nat_le a m.arrival) (answers_sent s traces b))
 
 -- a message that goes to a channel: the others go to cores
 abbrev pub is_request : Message → Bool
@@ -46,7 +47,7 @@ left_by_cores until mail = filter (λ m. not (not (is_request m) && nat_lt m.arr
 abbrev pub FlightsMeet : Config → List (List Entry) → ℕ → Type 0
 FlightsMeet s traces now = flight_of s traces now now ≡ in_flight s traces (run s traces now)
 
--- of what is in flight, what is due at a channel up to the cores' cycle and the least latency of requests is what
+-- of what is in flight, what is due at a channel up to the cores' cycle plus the least latency of requests is what
 -- arrives at the channel in the run, even after what is due at other units was taken out
 abbrev pub HoldChannelInboxes : Config → List (List Entry) → ℕ → ℕ → ℕ → Type 0
 HoldChannelInboxes s traces a b until =
@@ -56,8 +57,8 @@ HoldChannelInboxes s traces a b until =
     (left_after s.channels b until units (flight_of s traces a b))
     ≡ mail_in s traces until (Channel channel) b until
 
--- of what is in flight, what is due at a core up to the channels' cycle and the least way back is what arrives at the
--- core in the run, even after what is due at other units was taken out
+-- of what is in flight, what is due at a core up to the channels' cycle plus the least time of a credit or a reply is
+-- what arrives at the core in the run, even after what is due at other units was taken out
 abbrev pub HoldCoreInboxes : Config → List (List Entry) → ℕ → ℕ → ℕ → Type 0
 HoldCoreInboxes s traces a b until =
     (units : List MachineUnit) (least core : ℕ) → has_unit units (Core core) ≡ false → AnswersTakeFor s least
@@ -70,7 +71,8 @@ HoldCoreInboxes s traces a b until =
 abbrev pub ChannelsTakeTheirs : Config → List (List Entry) → ℕ → ℕ → ℕ → Type 0
 ChannelsTakeTheirs s traces a b until =
     (units : List MachineUnit) → b ≤ until → ((core : ℕ) → has_unit units (Core core) ≡ false)
-    → ((channel : ℕ) → channel < s.channels → has_unit units (Channel channel) ≡ false → mail_in s traces a (Channel channel) b until ≡ [])
+    → ((channel : ℕ) → channel < s.channels → has_unit units (Channel channel) ≡ false
+    → mail_in s traces a (Channel channel) b until ≡ [])
     → left_after s.channels b until units (flight_of s traces a b) ≡ left_by_channels until (flight_of s traces a b)
 
 -- Where what is due is taken out for some cores, one by one, and at the others nothing is due, what is left is what all
@@ -93,15 +95,20 @@ LaterStays s from until =
 abbrev pub ChannelsGoFurther : Config → List (List Entry) → ℕ → ℕ → ℕ → Type 0
 ChannelsGoFurther s traces a b until =
     (least : ℕ) (sent : ℕ → List Message) → AnswersTakeFor s least → b ≤ until → a ≤ b + least
-    → ((channel : ℕ) → channel < s.channels → messages_of_channel s (run s traces until) channel ≡ messages_of_channel s (run s traces b) channel ++ sent channel)
+    → ((channel : ℕ) → channel < s.channels
+    → messages_of_channel s (run s traces until) channel
+    ≡ messages_of_channel s (run s traces b) channel ++ sent channel)
     → flight_of s traces a until
     ≡ fold insert_by_age (left_by_channels until (flight_of s traces a b)) (flat_map sent (below s.channels))
 
--- When the cores go on, what arrives at them is gone, and what they send is added.
+-- When the cores go on, what arrives at them is gone, and what they send is added. The channels are not so far that
+-- what the cores send could arrive behind them.
 abbrev pub CoresGoFurther : Config → List (List Entry) → ℕ → ℕ → ℕ → Type 0
 CoresGoFurther s traces a b until =
     (least : ℕ) (sent : ℕ → List Message) → RequestsTravelFor s least → a ≤ until → b ≤ a + least
-    → ((core : ℕ) → core < s.cores → messages_of_core s traces (run s traces until) core ≡ messages_of_core s traces (run s traces a) core ++ sent core)
+    → ((core : ℕ) → core < s.cores
+    → messages_of_core s traces (run s traces until) core
+    ≡ messages_of_core s traces (run s traces a) core ++ sent core)
     → flight_of s traces until b
     ≡ fold insert_by_age (left_by_cores until (flight_of s traces a b)) (flat_map sent (below s.cores))
 
@@ -110,7 +117,9 @@ CoresGoFurther s traces a b until =
 abbrev pub ChannelsGoFurtherFor : Config → List (List Entry) → ℕ → ℕ → ℕ → Type 0
 ChannelsGoFurtherFor s traces a b until =
     (p : Message → Bool) (least : ℕ) (sent : ℕ → List Message) → AnswersTakeFor s least → b ≤ until → a ≤ b + least
-    → ((channel : ℕ) → channel < s.channels → messages_of_channel s (run s traces until) channel ≡ messages_of_channel s (run s traces b) channel ++ sent channel)
+    → ((channel : ℕ) → channel < s.channels
+    → messages_of_channel s (run s traces until) channel
+    ≡ messages_of_channel s (run s traces b) channel ++ sent channel)
     → filter p (flight_of s traces a until)
     ≡ fold insert_by_age (filter p (left_by_channels until (flight_of s traces a b)))
     (filter p (flat_map sent (below s.channels)))
@@ -120,7 +129,9 @@ ChannelsGoFurtherFor s traces a b until =
 abbrev pub CoresGoFurtherFor : Config → List (List Entry) → ℕ → ℕ → ℕ → Type 0
 CoresGoFurtherFor s traces a b until =
     (p : Message → Bool) (least : ℕ) (sent : ℕ → List Message) → RequestsTravelFor s least → a ≤ until → b ≤ a + least
-    → ((core : ℕ) → core < s.cores → messages_of_core s traces (run s traces until) core ≡ messages_of_core s traces (run s traces a) core ++ sent core)
+    → ((core : ℕ) → core < s.cores
+    → messages_of_core s traces (run s traces until) core
+    ≡ messages_of_core s traces (run s traces a) core ++ sent core)
     → filter p (flight_of s traces until b)
     ≡ fold insert_by_age (filter p (left_by_cores until (flight_of s traces a b)))
     (filter p (flat_map sent (below s.cores)))

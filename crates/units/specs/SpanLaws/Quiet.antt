@@ -24,16 +24,18 @@ RestsAlone s traces from until (Channel channel) =
     (until - from)
 
 -- Alone, from what it did before `from` and what arrived at it, a unit would send nothing before `until`, if nothing
--- arrived. It may retire and issue, or issue commands other than column commands: a unit that rests is silent, but not
--- the other way round.
+-- arrived. A core may retire and issue Plain entries, and a channel may issue commands other than RD and WR: a unit
+-- that rests is silent, but not the other way round.
 abbrev pub IsSilent : Config → List (List Entry) → ℕ → ℕ → MachineUnit → Type 0
 IsSilent s traces from until (Core core) =
     (n : ℕ) → from + n ≤ until
     → core_messages s core (trace_of traces core)
-    (core_run s core (trace_of traces core) (core_steps_of s traces from core) (mail_before s traces from (Core core) from) n)
+    (core_run s core (trace_of traces core) (core_steps_of s traces from core)
+    (mail_before s traces from (Core core) from) n)
     ≡ core_messages s core (trace_of traces core) (core_steps_of s traces from core)
 IsSilent s traces from until (Channel channel) =
     (n : ℕ) → from + n ≤ until
     → channel_messages s channel
-    (channel_run s channel (channel_steps_of s traces from channel) (mail_before s traces from (Channel channel) from) n)
+    (channel_run s channel (channel_steps_of s traces from channel)
+    (mail_before s traces from (Channel channel) from) n)
     ≡ channel_messages s channel (channel_steps_of s traces from channel)

@@ -1,9 +1,9 @@
 -- A machine whose cores and channels go on in turns, each unit with a wake word: only those that wake before the end
 -- of a turn are run.
 --     own_cycle a b unit, other_cycle a b unit      where the units of a unit's kind stand, and those of the other kind
---     MaySleep s traces a b unit at wake      a unit stands at cycle `at`, and may be left alone up to its word
+--     WaitsInTurns s traces a b unit at wake      a unit stands at cycle `at`, and may be left alone up to its word
 --     IsInTurns s traces a b at wake flight      the cores stand at cycle a, the channels at b, and this is in flight
---     StaysAsleep, IsRunOn      what becomes of a unit in a turn of its kind
+--     IsLeftAlone, IsRunOn      what becomes of a unit in a turn of its kind
 --     IsLowered      what becomes of a unit in a turn of the other kind
 --     ChannelsTake, CoresTake s traces until ..      a turn of the channels, and a turn of the cores
 --     ChannelsAreReady, CoresAreReady      what is due at a unit is what arrives at it from where it stands
@@ -41,30 +41,33 @@ other_cycle a b (Channel channel) = a
 
 -- A unit stands at a cycle that is not past its kind's, and may be left alone up to its word: it would send nothing,
 -- and of what the other kind has sent so far nothing arrives at it.
-pub record MaySleep (s : Config) (traces : List (List Entry)) (a b : ℕ) (unit : MachineUnit) (at wake : ℕ) : Type 0 where
+pub record WaitsInTurns (s : Config) (traces : List (List Entry)) (a b : ℕ) (unit : MachineUnit) (at wake : ℕ)
+    : Type 0 where
   pub behind : at ≤ own_cycle a b unit
   pub ahead : own_cycle a b unit ≤ wake
   pub silent : IsSilent s traces at wake unit
   pub none : mail_in s traces (other_cycle a b unit) unit at wake ≡ []
 
--- The cores stand at cycle a and the channels at cycle b, neither further ahead than what they send takes; each unit
--- waits, and exactly what is in flight is held.
-pub record IsInTurns (s : Config) (traces : List (List Entry)) (a b : ℕ) (at wake : MachineUnit → ℕ) (flight : List Message) : Type 0 where
+-- The cores stand at cycle a and the channels at cycle b, neither further ahead than the least time of a message to
+-- them; each unit waits, and exactly what is in flight is held.
+pub record IsInTurns (s : Config) (traces : List (List Entry)) (a b : ℕ) (at wake : MachineUnit → ℕ)
+    (flight : List Message) : Type 0 where
   pub channels_near : RequestsTravelFor s (b - a)
   pub cores_near : AnswersTakeFor s (a - b)
-  pub wait : (unit : MachineUnit) → Exists s unit → MaySleep s traces a b unit (at unit) (wake unit)
+  pub wait : (unit : MachineUnit) → Exists s unit → WaitsInTurns s traces a b unit (at unit) (wake unit)
   pub holds : flight ≡ flight_of s traces a b
 
 -- In a turn of its kind, a unit whose word is not before the end of the turn is left as it is.
-pub record StaysAsleep (until at wake at_then wake_then : ℕ) (sent : List Message) : Type 0 where
-  pub sleeps : until ≤ wake
+pub record IsLeftAlone (until at wake at_then wake_then : ℕ) (sent : List Message) : Type 0 where
+  pub wakes_later : until ≤ wake
   pub same_at : at_then ≡ at
   pub same_wake : wake_then ≡ wake
   pub sends_none : sent ≡ []
 
 -- In a turn of its kind, a unit whose word is before the end of the turn is run from where it stands up to the end. Its
 -- new word is not past what it sends next, if nothing arrives, nor past what is in flight to it.
-pub record IsRunOn (s : Config) (traces : List (List Entry)) (unit : MachineUnit) (until at at_then wake_then : ℕ) (flight sent : List Message) : Type 0 where
+pub record IsRunOn (s : Config) (traces : List (List Entry)) (unit : MachineUnit) (until at at_then wake_then : ℕ)
+    (flight sent : List Message) : Type 0 where
   pub stands : at_then ≡ until
   pub since : until ≤ wake_then
   pub silent : IsSilent s traces until wake_then unit
@@ -73,17 +76,19 @@ pub record IsRunOn (s : Config) (traces : List (List Entry)) (unit : MachineUnit
 
 -- In a turn of the other kind a unit stays where it stands, and its word is lowered to the arrivals of what is sent
 -- to it, and no further.
-pub record IsLowered (s : Config) (unit : MachineUnit) (at wake at_then wake_then : ℕ) (sent : List Message) : Type 0 where
+pub record IsLowered (s : Config) (unit : MachineUnit) (at wake at_then wake_then : ℕ) (sent : List Message)
+    : Type 0 where
   pub stays : at_then ≡ at
   pub less : wake_then ≤ wake
   pub arrivals : All (λ m. is_to s unit m ≡ true → wake_then ≤ m.arrival) sent
   pub no_further : (cycle : ℕ) → cycle ≤ wake → All (λ m. cycle ≤ m.arrival) sent → cycle ≤ wake_then
 
 -- a turn of the channels: each is left or run, the words of the cores are lowered, and what the channels send is added
-pub record ChannelsTake (s : Config) (traces : List (List Entry)) (until : ℕ) (at wake at_then wake_then : MachineUnit → ℕ) (flight flight_then : List Message) : Type 0 where
+pub record ChannelsTake (s : Config) (traces : List (List Entry)) (until : ℕ)
+    (at wake at_then wake_then : MachineUnit → ℕ) (flight flight_then : List Message) : Type 0 where
   pub sent : ℕ → List Message
   pub go : (channel : ℕ) → channel < s.channels
-      → StaysAsleep until (at (Channel channel)) (wake (Channel channel)) (at_then (Channel channel))
+      → IsLeftAlone until (at (Channel channel)) (wake (Channel channel)) (at_then (Channel channel))
       (wake_then (Channel channel)) (sent channel)
       ⊎ IsRunOn s traces (Channel channel) until (at (Channel channel)) (at_then (Channel channel))
       (wake_then (Channel channel)) flight (sent channel)
@@ -93,10 +98,11 @@ pub record ChannelsTake (s : Config) (traces : List (List Entry)) (until : ℕ) 
   pub flight_is : flight_then ≡ fold insert_by_age (left_by_channels until flight) (flat_map sent (below s.channels))
 
 -- a turn of the cores: each is left or run, the words of the channels are lowered, and what the cores send is added
-pub record CoresTake (s : Config) (traces : List (List Entry)) (until : ℕ) (at wake at_then wake_then : MachineUnit → ℕ) (flight flight_then : List Message) : Type 0 where
+pub record CoresTake (s : Config) (traces : List (List Entry)) (until : ℕ) (at wake at_then wake_then : MachineUnit → ℕ)
+    (flight flight_then : List Message) : Type 0 where
   pub sent : ℕ → List Message
   pub go : (core : ℕ) → core < s.cores
-      → StaysAsleep until (at (Core core)) (wake (Core core)) (at_then (Core core)) (wake_then (Core core)) (sent core)
+      → IsLeftAlone until (at (Core core)) (wake (Core core)) (at_then (Core core)) (wake_then (Core core)) (sent core)
       ⊎ IsRunOn s traces (Core core) until (at (Core core)) (at_then (Core core)) (wake_then (Core core)) flight
       (sent core)
   pub stay : (channel : ℕ) → channel < s.channels
@@ -176,10 +182,10 @@ abbrev pub ChannelGoes : Config → List (List Entry) → ℕ → ℕ → ℕ �
 ChannelGoes s traces a b until =
     (channel at wake at_then wake_then : ℕ) (sent : List Message) → channel < s.channels → b ≤ until
     → RequestsTravelFor s (b - a) → RequestsTravelFor s (until - a)
-    → MaySleep s traces a b (Channel channel) at wake
-    → StaysAsleep until at wake at_then wake_then sent
+    → WaitsInTurns s traces a b (Channel channel) at wake
+    → IsLeftAlone until at wake at_then wake_then sent
     ⊎ IsRunOn s traces (Channel channel) until at at_then wake_then (flight_of s traces a b) sent
-    → MaySleep s traces a until (Channel channel) at_then wake_then
+    → WaitsInTurns s traces a until (Channel channel) at_then wake_then
     × (messages_of_channel s (run s traces until) channel ≡ messages_of_channel s (run s traces b) channel ++ sent)
 
 -- A core in a turn of the cores waits again, and what it sent has grown by what it sends. Only what is in flight to it
@@ -188,26 +194,30 @@ abbrev pub CoreGoes : Config → List (List Entry) → ℕ → ℕ → ℕ → T
 CoreGoes s traces a b until =
     (core at wake at_then wake_then : ℕ) (sent : List Message) → core < s.cores → a ≤ until → AnswersTakeFor s (a - b)
     → AnswersTakeFor s (until - b)
-    → MaySleep s traces a b (Core core) at wake
-    → StaysAsleep until at wake at_then wake_then sent
+    → WaitsInTurns s traces a b (Core core) at wake
+    → IsLeftAlone until at wake at_then wake_then sent
     ⊎ IsRunOn s traces (Core core) until at at_then wake_then (flight_of s traces a b) sent
-    → MaySleep s traces until b (Core core) at_then wake_then
+    → WaitsInTurns s traces until b (Core core) at_then wake_then
     × (messages_of_core s traces (run s traces until) core ≡ messages_of_core s traces (run s traces a) core ++ sent)
 
 -- A core in a turn of the channels waits still, with its word lowered to what they send.
 abbrev pub CoreStays : Config → List (List Entry) → ℕ → ℕ → ℕ → Type 0
 CoreStays s traces a b until =
     (core at wake at_then wake_then : ℕ) (sent : ℕ → List Message) → b ≤ until → AnswersTakeFor s (a - b)
-    → ((channel : ℕ) → channel < s.channels → messages_of_channel s (run s traces until) channel ≡ messages_of_channel s (run s traces b) channel ++ sent channel)
-    → MaySleep s traces a b (Core core) at wake
+    → ((channel : ℕ) → channel < s.channels
+    → messages_of_channel s (run s traces until) channel
+    ≡ messages_of_channel s (run s traces b) channel ++ sent channel)
+    → WaitsInTurns s traces a b (Core core) at wake
     → IsLowered s (Core core) at wake at_then wake_then (flat_map sent (below s.channels))
-    → MaySleep s traces a until (Core core) at_then wake_then
+    → WaitsInTurns s traces a until (Core core) at_then wake_then
 
 -- A channel in a turn of the cores waits still, with its word lowered to what they send.
 abbrev pub ChannelStays : Config → List (List Entry) → ℕ → ℕ → ℕ → Type 0
 ChannelStays s traces a b until =
     (channel at wake at_then wake_then : ℕ) (sent : ℕ → List Message) → a ≤ until → RequestsTravelFor s (b - a)
-    → ((core : ℕ) → core < s.cores → messages_of_core s traces (run s traces until) core ≡ messages_of_core s traces (run s traces a) core ++ sent core)
-    → MaySleep s traces a b (Channel channel) at wake
+    → ((core : ℕ) → core < s.cores
+    → messages_of_core s traces (run s traces until) core
+    ≡ messages_of_core s traces (run s traces a) core ++ sent core)
+    → WaitsInTurns s traces a b (Channel channel) at wake
     → IsLowered s (Channel channel) at wake at_then wake_then (flat_map sent (below s.cores))
-    → MaySleep s traces until b (Channel channel) at_then wake_then
+    → WaitsInTurns s traces until b (Channel channel) at_then wake_then

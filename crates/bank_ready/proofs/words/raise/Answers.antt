@@ -9,8 +9,8 @@ pub loop-place-preserved : goal.loop-place-preserved
 loop-place-preserved g c =
     one-more c.args.words.now c.loop-place.words c.args.first c.loop-place.place c.raise_word.new.word (λ (k : ℕ). c.args.until) c.loop-place.invariant (omega arith) c.raise_word.ensures
 
-pub returns-clause-inside : goal.returns-clause-inside
-returns-clause-inside g c k d from to = c.loop-place.invariant.done k d from (omega arith)
+pub returns-clause-raised : goal.returns-clause-raised
+returns-clause-raised g c k d from to = c.loop-place.invariant.done k d from (omega arith)
 
 pub returns-clause-below : goal.returns-clause-below
 returns-clause-below g c = c.loop-place.invariant.below

@@ -22,12 +22,12 @@ returns-clause-words c k d l =
     let before = get_or a.words.now k d in
     c.raise_all_groups.ensures k d l
     ∙ (λ i. max before (all_groups_until a.earlier.bank (c.bound_until-same_group.ensures i) (c.bound_until-other_group.ensures i) (c.bound_until-other_rank.ensures i) k))
-    ∙ column_raised (held_until a.delays.now a.earlier.cycle a.earlier.kind a.later) a.earlier.bank k before
+    ∙ column_raised (held_until a.gaps.now a.earlier.cycle a.earlier.kind a.later) a.earlier.bank k before
 
 pub returns-clause-least : goal.returns-clause-least
 returns-clause-least c relation =
     let a = c.args in
     let least = least-of-three _ _ _ _ _ c.min.ensures c.min-2.ensures in
-    column_least a.delays.now a.earlier.cycle a.earlier.kind a.later c.min-2.result relation c.requires.earlier c.requires.later
+    column_least a.gaps.now a.earlier.cycle a.earlier.kind a.later c.min-2.result relation c.requires.earlier c.requires.later
     (subst (λ n. c.min-2.result ≤ n) c.bound_until-same_group.ensures least.0) (subst (λ n. c.min-2.result ≤ n) c.bound_until-other_group.ensures least.1)
     (subst (λ n. c.min-2.result ≤ n) c.bound_until-other_rank.ensures least.2)

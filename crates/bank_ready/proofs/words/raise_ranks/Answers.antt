@@ -16,7 +16,7 @@ loop-other-preserved c =
       | else-other-rank w ↦ w.until-is ∙ sym (cond-false (eqb a.rank (k / 4)) a.same_rank a.other_rank (ne_eqb a.rank (k / 4) (λ e. w.if-other-rank.false (sym (e ∙ at)))))
     ] in
     four-more a.words.now c.loop-other.words c.raise.new.words c.loop-other.other c.if-other-rank.until (ranks_until a.rank a.same_rank a.other_rank) c.loop-other.invariant
-    c.raise.ensures.inside c.raise.ensures.below c.raise.ensures.above raised
+    c.raise.ensures.raised c.raise.ensures.below c.raise.ensures.above raised
 
 pub returns : goal.returns
 returns c k d l = c.loop-other.invariant.done k d (omega arith) (omega arith)

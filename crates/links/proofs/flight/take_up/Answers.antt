@@ -1,7 +1,7 @@
 use Rattle.std.proofs.Common.{refl, ap, ◌∙◌}
 use Rattle.std.specs.Prelude.{fold}
 use Rattle.sim_base.specs.History.{by_age, insert_by_age}
-use Rattle.links.specs.Rings.{messages_in}
+use Rattle.links.specs.Rings.{ring_messages}
 use Rattle.sim_base.proofs.Results.{on_err}
 use Rattle.links.proofs.flight.take_up.Goals as goal
 
@@ -27,7 +27,7 @@ pub returns-clause-ok : goal.returns-clause-ok
 returns-clause-ok c =
     c.put_all.ensures.messages
     ∙ ap (λ ms. fold insert_by_age (by_age ms) c.sort_if_many.new.messages) c.in_ok-make_room_for.ensures.grows.messages
-    ∙ c.sort_if_many.ensures.puts (messages_in c.args.rings.now.items)
+    ∙ c.sort_if_many.ensures.puts (ring_messages c.args.rings.now.items)
 
 pub returns-clause-same : goal.returns-clause-same
 returns-clause-same c = c.sort_if_many.ensures.same

@@ -12,7 +12,7 @@ use Rattle.queue.proofs.Queue.arrive.Goals.{After-arrive}
 -- the request is taken in, with these counts of what writes
 taken_in : (c : After-arrive) (writes : ℕ) (drains : Bool) → c.self.inside.writes + cond (is_access access.Write c.args.request.access) 1 0 ≡ writes
     → drains ≡ drains_by c.self.inside.high c.self.inside.low c.self.inside.drain_decided writes
-    → AreKept (record c.self.inside { drains = drains; waiting = c.self.inside.waiting + 1; writes = writes; log = c.arrive.new.self })
+    → AreKept (record c.self.inside { drains = drains; waiting_count = c.self.inside.waiting_count + 1; writes = writes; log = c.arrive.new.self })
 taken_in c writes drains writes_is drains_is =
     let k = c.self.invariant in
     let log = c.self.inside.log.log in

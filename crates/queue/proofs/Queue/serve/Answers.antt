@@ -25,7 +25,7 @@ write_is c log write same is = ap (λ (l : List Arrived). cond {A = ℕ} (is_acc
 served : (c : After-serve-unblocked) (writes : ℕ) (drains : Bool)
     → writes + cond (is_access access.Write (get_or c.self.inside.log.log c.args.place absent).request.access) 1 0 ≡ c.self.inside.writes
     → drains ≡ drains_by c.self.inside.high c.self.inside.low c.self.inside.drain_decided writes
-    → AreKept (record c.self.inside { drains = drains; waiting = c.self.inside.waiting - 1; writes = writes; log = c.serve-unblocked.new.self })
+    → AreKept (record c.self.inside { drains = drains; waiting_count = c.self.inside.waiting_count - 1; writes = writes; log = c.serve-unblocked.new.self })
 served c writes drains writes_is drains_is =
     let k = c.self.invariant in
     let log = c.self.inside.log.log in

@@ -4,11 +4,11 @@ use Rattle.shards.specs.Phases.{shard_count}
 use Rattle.shards.proofs.Placing.{all-placed, missing-at, missing-none, results-count}
 use Rattle.shards.proofs.merging.are_all_there.Goals as goal
 
-pub returns-then-not-is_taken-clause-err : goal.returns-then-not-is_taken-clause-err
-returns-then-not-is_taken-clause-err c p names e =
+pub returns-then-not-is_filled-clause-err : goal.returns-then-not-is_filled-clause-err
+returns-then-not-is_filled-clause-err c p names e =
     let at = c.loop-shard in
     let count = ap length e ∙ results-count p names in
-    missing-at p names c.args.places.now at.shard e (omega (arith, count, c.loop-shard-test.true)) at.invariant (sym c.is_taken.ensures ∙ c.if-not-is_taken.true)
+    missing-at p names c.args.places.now at.shard e (omega (arith, count, c.loop-shard-test.true)) at.invariant (sym c.is_filled.ensures ∙ c.if-not-is_filled.true)
 
 pub returns-clause-ok : goal.returns-clause-ok
 returns-clause-ok c p names e =

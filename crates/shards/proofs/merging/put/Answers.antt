@@ -13,14 +13,14 @@ returns-then-not-is_of_phase-clause-err c names e len =
     ∙ fault-stranger p names c.name-name.result (sym c.is_of_phase.ensures ∙ c.if-not-is_of_phase.true)
     ∙ ap (λ n. Some (Stranger n)) len
 
-pub returns-then-is_taken-clause-err : goal.returns-then-is_taken-clause-err
-returns-then-is_taken-clause-err c names e len =
+pub returns-then-is_filled-clause-err : goal.returns-then-is_filled-clause-err
+returns-then-is_filled-clause-err c names e len =
     let p = c.args.phase.now in
     let name = c.name-name.result in
     let known = sym c.is_of_phase.ensures ∙ c.if-not-is_of_phase.false in
     let own = among-own p name known in
     let taken = taken-name p names name c.args.places.now.items e known
-    ∙ ap (λ z. is_some (get_or z name.shard None)) (sym c.deref.ensures.value) ∙ sym c.is_taken.ensures ∙ c.if-is_taken.true in
+    ∙ ap (λ z. is_some (get_or z name.shard None)) (sym c.deref.ensures.value) ∙ sym c.is_filled.ensures ∙ c.if-is_filled.true in
     ap (fault_at p names) (sym c.name-name.ensures) ∙ fault-double p names name known taken ∙ ap (λ n. Some (Double n)) len
 
 pub returns-clause-ok : goal.returns-clause-ok
@@ -30,7 +30,7 @@ returns-clause-ok c names e len =
     let known = sym c.is_of_phase.ensures ∙ c.if-not-is_of_phase.false in
     let own = among-own p name known in
     let taken = taken-name p names name c.args.places.now.items e known
-    ∙ ap (λ z. is_some (get_or z name.shard None)) (sym c.deref.ensures.value) ∙ sym c.is_taken.ensures ∙ c.if-is_taken.false in
+    ∙ ap (λ z. is_some (get_or z name.shard None)) (sym c.deref.ensures.value) ∙ sym c.is_filled.ensures ∙ c.if-is_filled.false in
     let of = c.requires.of (subst (λ n. is_among (names_of p) n ≡ true) c.name-name.ensures known) in (
       ap (fault_at p names) (sym c.name-name.ensures) ∙ fault-none p names name known taken,
       ap (λ z. set z name.shard (Some c.args.done)) e

@@ -1,4 +1,4 @@
--- Each shard takes up the lists that stood at its index, and sleeps.
+-- Each shard takes up the lists that stood at its index, and is between phases.
 use Rattle.std.proofs.Common.{◌≡◌, ◌∙◌, ◌∷◌, ◌++◌, [], suc, rules, length, get_or, sym, ap, ap₂, subst, append_assoc, arith}
 use Rattle.std.specs.Arc.{arc_value}
 use Rattle.std.specs.declared.vec.Vec.{Vec}
@@ -16,20 +16,20 @@ use Rattle.shards.proofs.planning.stopped.Goals as goal
 
 pub take_up-requires : goal.take_up-requires
 take_up-requires c =
-    let machine = arc_value c.args.standing.now.machine in
-    let bounds = c.args.standing.now.bounds.items in
+    let machine = arc_value c.args.layout.now.machine in
+    let bounds = c.args.layout.now.bounds.items in
     let at = c.loop-shard in
     let x = c.in-Some.shard in
     let whole = ap (λ z. at.yielded ++ z) (sym c.in-Some.ensures.steps.0) ∙ at.invariant.order ∙ c.into_iter-shard-iterator.ensures.into_iter_gives.0 in
-    let stop = seam-stop machine bounds c.args.standing.now.at c.args.shards.items at.yielded _ x c.args.inbound.items at.inbound.items c.index_mut.result.now c.requires whole at.invariant.left in
+    let stop = seam-stop machine bounds c.args.layout.now.at c.args.shards.items at.yielded _ x c.args.inbound.items at.inbound.items c.index_mut.result.now c.requires whole at.invariant.left in
     subst IsOfMachine (sym c.deref_mut.ensures.value)
-    (stop-of_machine machine bounds (length at.yielded) c.args.standing.now.at x.value _ stop)
+    (stop-of_machine machine bounds (length at.yielded) c.args.layout.now.at x.value _ stop)
 
 pub loop-shard-preserved : goal.loop-shard-preserved
 loop-shard-preserved c =
-    let machine = arc_value c.args.standing.now.machine in
-    let bounds = c.args.standing.now.bounds.items in
-    let now = c.args.standing.now.at in
+    let machine = arc_value c.args.layout.now.machine in
+    let bounds = c.args.layout.now.bounds.items in
+    let now = c.args.layout.now.at in
     let at = c.loop-shard in
     let x = c.in-Some.shard in
     let shard = x.value in

@@ -1,4 +1,4 @@
--- The shards so far sleep where the machine stands; the lists of the others stand where they stood.
+-- The shards so far are between phases where the machine stands; the lists of the others stand where they stood.
 use Rattle.std.proofs.Common.{◌≡◌, ◌++◌, length}
 use Rattle.std.specs.Arc.{arc_value}
 use Rattle.std.specs.Vec.Iter.{into_iter_items, into_iter_len}
@@ -12,5 +12,5 @@ invariant-loop-shard l = record {
   finite : into_iter_len l.shard-iterator ≡ length (into_iter_items l.shard-iterator);
   left : AreLeft (length l.yielded) l.fn.inbound.items l.inbound.items;
   count : length l.stopped.items ≡ length l.yielded;
-  made : AreMade (arc_value l.standing.machine) l.standing.bounds.items l.standing.at l.stopped.items;
+  made : AreMade (arc_value l.layout.machine) l.layout.bounds.items l.layout.at l.stopped.items;
 }

@@ -7,7 +7,7 @@ pub go_on-requires-clause-holds_inbox : goal.go_on-requires-clause-holds_inbox
 go_on-requires-clause-holds_inbox c =
     let r = c.requires in
     let range = c.args.range.now in
-    phase-holds_inbox c.args.machine.now range.first c.args.now c.args.until range.units.items range.words.items c.args.traffic.now.links r.asleep (omega (arith, r.order)) r.travels
+    phase-holds_inbox c.args.machine.now range.first c.args.now c.args.until range.units.items range.words.items c.args.traffic.now.links r.between_phases (omega (arith, r.order)) r.travels
 
 pub returns-clause-has_run : goal.returns-clause-has_run
 returns-clause-has_run c =
@@ -20,4 +20,4 @@ returns-clause-has_run c =
     let has_run = c.in_ok-go_on.ensures in
     subst (λ first. HaveRun machine first now until new.units.items new.words.items links) (sym has_run.first)
     (phase-has_run machine old.first now until old.units.items new.units.items old.words.items new.words.items c.args.traffic.now.links links
-    c.requires.asleep has_run.count has_run.words (subst (λ first. WaitAll machine first until now new.units.items new.words.items) has_run.first has_run.wait) has_run.links)
+    c.requires.between_phases has_run.count has_run.words (subst (λ first. WaitAll machine first until now new.units.items new.words.items) has_run.first has_run.wait) has_run.links)

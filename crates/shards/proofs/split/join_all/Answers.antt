@@ -5,7 +5,7 @@ use Rattle.links.specs.InFlight.{InFlight}
 use Rattle.units.specs.Parts.{StandAt}
 use Rattle.units.specs.Runs.{flight_at}
 use Rattle.shards.specs.Lists.{bound}
-use Rattle.shards.specs.Shards.{SleepsAt, flight_to}
+use Rattle.shards.specs.Shards.{IsBetweenPhasesAt, flight_to}
 use Rattle.units.proofs.Sharing.{among-all}
 use Rattle.shards.proofs.Splitting.{among-nothing, shard-seam}
 use Rattle.units.proofs.Standing.{stand-none, all-yielded}
@@ -14,8 +14,8 @@ use Rattle.sim_base.proofs.Added.{length-push_suc}
 
 pub loop-shard-init : goal.loop-shard-init
 loop-shard-init c =
-    let machine = arc_value c.args.standing.now.machine in
-    let now = c.args.standing.now.at in
+    let machine = arc_value c.args.layout.now.machine in
+    let now = c.args.layout.now.at in
     let ms = flight_at machine now in
     let begins = sym c.requires.shards.split.begins in (
       refl,
@@ -29,9 +29,9 @@ loop-shard-init c =
 
 pub loop-shard-preserved : goal.loop-shard-preserved
 loop-shard-preserved c =
-    let machine = arc_value c.args.standing.now.machine in
-    let now = c.args.standing.now.at in
-    let bounds = c.args.standing.now.bounds.items in
+    let machine = arc_value c.args.layout.now.machine in
+    let now = c.args.layout.now.at in
+    let bounds = c.args.layout.now.bounds.items in
     let at = c.loop-shard in
     let x = c.in-Some.shard in
     let steps = c.in-Some.ensures.steps in
@@ -51,35 +51,35 @@ loop-shard-preserved c =
       joined.links ∙ ap {B = InFlight} (flight_to machine now 0) (joined.count ∙ past),
     )
 
-pub join_shard-requires-clause-asleep : goal.join_shard-requires-clause-asleep
-join_shard-requires-clause-asleep c =
-    let machine = arc_value c.args.standing.now.machine in
+pub join_shard-requires-clause-between_phases : goal.join_shard-requires-clause-between_phases
+join_shard-requires-clause-between_phases c =
+    let machine = arc_value c.args.layout.now.machine in
     let at = c.loop-shard in
     let x = c.in-Some.shard in
     let whole = ap (λ z. at.yielded ++ z) (sym c.in-Some.ensures.steps.0) ∙ at.invariant.0 ∙ c.into_iter-shard-iterator.ensures.into_iter_gives.0 in
-    let made = shard-seam machine c.args.standing.now.bounds.items c.args.standing.now.at c.args.shards.items at.yielded _ x c.requires.shards whole in
-    subst (λ n. SleepsAt machine n c.args.standing.now.at x.value) (made.0.first_is ∙ sym at.invariant.2) made.1
+    let made = shard-seam machine c.args.layout.now.bounds.items c.args.layout.now.at c.args.shards.items at.yielded _ x c.requires.shards whole in
+    subst (λ n. IsBetweenPhasesAt machine n c.args.layout.now.at x.value) (made.0.first_is ∙ sym at.invariant.2) made.1
 
 pub join_shard-requires-clause-links : goal.join_shard-requires-clause-links
 join_shard-requires-clause-links c =
-    let machine = arc_value c.args.standing.now.machine in
+    let machine = arc_value c.args.layout.now.machine in
     c.loop-shard.invariant.4
-    ∙ ap {B = InFlight} (flight_to machine c.args.standing.now.at 0) (sym c.loop-shard.invariant.2)
+    ∙ ap {B = InFlight} (flight_to machine c.args.layout.now.at 0) (sym c.loop-shard.invariant.2)
 
 pub returns-clause-count : goal.returns-clause-count
 returns-clause-count c =
     let at = c.loop-shard in
     let all = all-yielded at.yielded (into_iter_items at.shard-iterator) c.args.shards.items (at.invariant.0 ∙ c.into_iter-shard-iterator.ensures.into_iter_gives.0)
     (sym at.invariant.1 ∙ c.in-None.ensures.steps.0) in
-    at.invariant.2 ∙ ap (bound c.args.standing.now.bounds.items) (ap length all) ∙ c.requires.shards.split.ends (length c.args.shards.items) c.requires.shards.count
+    at.invariant.2 ∙ ap (bound c.args.layout.now.bounds.items) (ap length all) ∙ c.requires.shards.split.ends (length c.args.shards.items) c.requires.shards.count
 
 pub returns-clause-links : goal.returns-clause-links
 returns-clause-links c =
-    let machine = arc_value c.args.standing.now.machine in
+    let machine = arc_value c.args.layout.now.machine in
     let at = c.loop-shard in
     let all = all-yielded at.yielded (into_iter_items at.shard-iterator) c.args.shards.items (at.invariant.0 ∙ c.into_iter-shard-iterator.ensures.into_iter_gives.0)
     (sym at.invariant.1 ∙ c.in-None.ensures.steps.0) in
-    let whole = ap (bound c.args.standing.now.bounds.items) (ap length all) ∙ c.requires.shards.split.ends (length c.args.shards.items) c.requires.shards.count in
+    let whole = ap (bound c.args.layout.now.bounds.items) (ap length all) ∙ c.requires.shards.split.ends (length c.args.shards.items) c.requires.shards.count in
     at.invariant.4
-    ∙ ap {B = InFlight} (flight_to machine c.args.standing.now.at 0) whole
-    ∙ ap {B = InFlight} (λ z. record { channels = machine.config.channels; messages = z }) (among-all machine.config machine.traces.items c.args.standing.now.at)
+    ∙ ap {B = InFlight} (flight_to machine c.args.layout.now.at 0) whole
+    ∙ ap {B = InFlight} (λ z. record { channels = machine.config.channels; messages = z }) (among-all machine.config machine.traces.items c.args.layout.now.at)

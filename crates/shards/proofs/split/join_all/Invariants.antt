@@ -11,6 +11,6 @@ abbrev pub invariant-loop-shard : goal.invariant-loop-shard
 invariant-loop-shard l =
     (l.yielded ++ into_iter_items l.shard-iterator ≡ into_iter_items l.initial.shard-iterator)
     × (into_iter_len l.shard-iterator ≡ length (into_iter_items l.shard-iterator))
-    × (length l.parts.items ≡ bound l.standing.bounds.items (length l.yielded))
-    × StandAt (arc_value l.standing.machine) l.standing.at l.parts.items
-    × (l.links ≡ flight_to (arc_value l.standing.machine) l.standing.at 0 (bound l.standing.bounds.items (length l.yielded)))
+    × (length l.parts.items ≡ bound l.layout.bounds.items (length l.yielded))
+    × StandAt (arc_value l.layout.machine) l.layout.at l.parts.items
+    × (l.links ≡ flight_to (arc_value l.layout.machine) l.layout.at 0 (bound l.layout.bounds.items (length l.yielded)))

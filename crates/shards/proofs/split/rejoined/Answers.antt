@@ -4,11 +4,11 @@ use Rattle.shards.proofs.split.rejoined.Goals as goal
 
 pub invariant_of-result : goal.invariant_of-result
 invariant_of-result c =
-    let standing = c.args.standing in
+    let layout = c.args.layout in
     let all = c.in_ok-join_all.ensures {u = tt} in
     record {
       counted = c.requires.counted;
-      early = shards-early (arc_value standing.machine) standing.bounds.items standing.at c.args.shards.items c.requires.shards;
+      early = shards-early (arc_value layout.machine) layout.bounds.items layout.at c.args.shards.items c.requires.shards;
       count = all.count;
       stand = all.stand;
       flight = all.links;

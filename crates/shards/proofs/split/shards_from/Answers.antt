@@ -28,7 +28,7 @@ loop-index-preserved c =
       front-rest (bound bounds at.index) (bound bounds (at.index + 1)) c.args.units.items at.left.items c.take_front.new.units.items at.invariant.0 c.in_ok-own.ensures.rest order,
       ap length items ∙ length-push_suc at.shards.items x ∙ ap suc at.invariant.1 ∙ sym next,
       subst (AreMade m bounds c.args.snapshot.now.at) (sym items)
-          (made-push m bounds c.args.snapshot.now.at at.shards.items x at.invariant.2 (subst (λ n. IsShard m bounds n x.value) (sym at.invariant.1) c.in_ok-shard_of.ensures.shard) c.in_ok-shard_of.ensures.asleep),
+          (made-push m bounds c.args.snapshot.now.at at.shards.items x at.invariant.2 (subst (λ n. IsShard m bounds n x.value) (sym at.invariant.1) c.in_ok-shard_of.ensures.shard) c.in_ok-shard_of.ensures.between_phases),
     )
 
 pub take_front-requires : goal.take_front-requires
@@ -72,5 +72,5 @@ returns c =
       split = c.requires.split;
       count = omega (arith, at.invariant.1, c.loop-index-test.false, at.auto.index-end, c.requires.split.some);
       each = at.invariant.2.each;
-      asleep = at.invariant.2.asleep;
+      between_phases = at.invariant.2.between_phases;
     }

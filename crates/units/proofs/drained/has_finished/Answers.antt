@@ -41,7 +41,7 @@ returns-in-Channel c now h =
     let place = c.args.place in
     let at = channel-place machine now place c.in-Channel.channel c.in-Channel.field-1 (subst (IsPart machine (unit_at s place) now) c.in-Channel.is h) in
     let is = channel-at_place s place at.channel at.is in
-    let queue = c.waiting.ensures s at.channel (channel_steps_of s traces now at.channel) (mail_before s traces now (unit.Channel at.channel) now) (subst (IsChannelAt s traces at.channel now) (sym c.deref-in-Channel.ensures) at.stands) in (
+    let queue = c.waiting_count.ensures s at.channel (channel_steps_of s traces now at.channel) (mail_before s traces now (unit.Channel at.channel) now) (subst (IsChannelAt s traces at.channel now) (sym c.deref-in-Channel.ensures) at.stands) in (
       λ e. subst (HasFinished machine now) (sym is) (nil_from_length (queued_requests (issued_commands at.channel (channel_steps_of s traces now at.channel)) (mail_before s traces now (unit.Channel at.channel) now) (length (channel_steps_of s traces now at.channel))) (sym queue ∙ eqb-true _ _ e)),
       λ f. eq-eqb _ _ (queue ∙ ap length (subst (HasFinished machine now) is f)),
     )

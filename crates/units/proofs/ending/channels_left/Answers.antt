@@ -1,7 +1,7 @@
 use Rattle.std.proofs.Common.{◌<◌, ◌+◌, ◌∙◌, ap, ap₂, sym, subst, get_or}
 use Rattle.sim_base.specs.Machine.{run}
 use Rattle.sim_base.specs.declared.message.Unit.TheVariants as unit
-use Rattle.statistics.specs.Runs.{last_of_channel}
+use Rattle.statistics.specs.Runs.{final_of_channel}
 use Rattle.units.specs.Parts.{IsPart}
 use Rattle.units.proofs.Counted.{channel-stands, places-then}
 use Rattle.units.proofs.ending.channels_left.Goals as goal
@@ -30,5 +30,5 @@ loop-channel-preserved c =
     let now = c.args.now in
     let l = c.loop-channel in
     c.in_ok-push.ensures.items
-    ∙ places-then (last_of_channel s traces (run s traces now)) l.channel l.left.items _ l.invariant
-    (c.in_ok-channel_left.ensures {u = tt} ∙ ap (last_of_channel s traces (run s traces now)) c.from-in-loop-channel-2.ensures)
+    ∙ places-then (final_of_channel s traces (run s traces now)) l.channel l.left.items _ l.invariant
+    (c.in_ok-channel_left.ensures {u = tt} ∙ ap (final_of_channel s traces (run s traces now)) c.from-in-loop-channel-2.ensures)

@@ -1,7 +1,7 @@
 use Rattle.std.proofs.Common.{◌<◌, ◌∙◌, ap, sym, subst, get_or}
 use Rattle.sim_base.specs.Machine.{run}
 use Rattle.sim_base.specs.declared.message.Unit.TheVariants as unit
-use Rattle.statistics.specs.Runs.{last_of_core}
+use Rattle.statistics.specs.Runs.{final_of_core}
 use Rattle.units.specs.Parts.{IsPart}
 use Rattle.units.proofs.Counted.{core-stands, places-then}
 use Rattle.units.proofs.ending.cores_left.Goals as goal
@@ -26,4 +26,4 @@ loop-core-preserved c =
     let traces = machine.traces.items in
     let now = c.args.now in
     let l = c.loop-core in
-    c.in_ok-push.ensures.items ∙ places-then (last_of_core s traces (run s traces now)) l.core l.left.items _ l.invariant (c.in_ok-core_left.ensures {u = tt})
+    c.in_ok-push.ensures.items ∙ places-then (final_of_core s traces (run s traces now)) l.core l.left.items _ l.invariant (c.in_ok-core_left.ensures {u = tt})

@@ -2,7 +2,7 @@ use Rattle.std.proofs.Common.{refl, sym, ap, subst}
 use Rattle.std.specs.Prelude.{is_err}
 use Rattle.std.proofs.lemmas.Result.{IfOk-from_err, err_from_is_err_and, on_ok_weaker}
 use Rattle.sim_base.specs.declared.message.Unit.TheVariants as unit
-use Rattle.units.specs.Kept.{served_of}
+use Rattle.units.specs.Kept.{served_by_channel}
 use Rattle.units.specs.Parts.{IsPart}
 use Rattle.units.specs.Runs.{HasChannelAt, commands_at}
 use Rattle.units.proofs.tables.add_part.Goals as goal
@@ -41,5 +41,5 @@ returns-clause-commands c machine channel now rows h held =
 pub returns-clause-served : goal.returns-clause-served
 returns-clause-served c machine channel now rows l h held =
     let stands = subst (IsPart machine (unit.Channel channel) now) c.in-Channel.is h in
-    let own = (c.in_ok-add-in-Channel.ensures {u = tt}).held rows (served_of machine now channel) held (c.list_of.ensures machine channel now l (subst (HasChannelAt machine channel now) (sym c.into_inner.ensures) stands.0)) in
+    let own = (c.in_ok-add-in-Channel.ensures {u = tt}).held rows (served_by_channel machine now channel) held (c.list_of.ensures machine channel now l (subst (HasChannelAt machine channel now) (sym c.into_inner.ensures) stands.0)) in
     on_ok_weaker c.add-in-Channel.result (λ _. own) c.add-in-Channel.ensures.asked

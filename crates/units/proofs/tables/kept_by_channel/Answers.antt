@@ -3,7 +3,7 @@ use Rattle.std.specs.Vec.Iter.{into_iter_items}
 use Rattle.laws.specs.Commands.{history_of}
 use Rattle.sim_base.specs.History.{below}
 use Rattle.sim_base.proofs.Added.{length-push_suc}
-use Rattle.units.specs.Kept.{AreHeld, served_of}
+use Rattle.units.specs.Kept.{AreHeld, served_by_channel}
 use Rattle.units.specs.Units.{unit_count}
 use Rattle.units.specs.declared.tables.KeptLists.{KeptLists}
 use Rattle.units.proofs.Keeping.{held-more}
@@ -22,7 +22,7 @@ loop-part-init c =
       commands_asked = c.lists_if.ensures.asked;
       served_asked = c.lists_if-2.ensures.asked;
       commands = subst (λ n. AreHeld c.lists_if.result (map (history_of s traces c.args.now) (below n))) none c.lists_if.ensures.held;
-      served = subst (λ n. AreHeld c.lists_if-2.result (map (served_of machine c.args.now) (below n))) none c.lists_if-2.ensures.held;
+      served = subst (λ n. AreHeld c.lists_if-2.result (map (served_by_channel machine c.args.now) (below n))) none c.lists_if-2.ensures.held;
     }
 
 pub loop-part-preserved : goal.loop-part-preserved
@@ -56,8 +56,8 @@ loop-part-preserved c =
       commands = subst (λ n. AreHeld new.commands (map (history_of s traces c.args.now) (below (n - s.cores)))) next
           (held-more machine c.args.now place x (history_of s traces c.args.now) old.commands new.commands stands within (λ core h. ap (λ (k : KeptLists). k.commands) (told.core machine core c.args.now h))
           (λ channel rows l h held. told.commands machine channel c.args.now rows h held) at.invariant.commands);
-      served = subst (λ n. AreHeld new.served (map (served_of machine c.args.now) (below (n - s.cores)))) next
-          (held-more machine c.args.now place x (served_of machine c.args.now) old.served new.served stands within (λ core h. ap (λ (k : KeptLists). k.served) (told.core machine core c.args.now h))
+      served = subst (λ n. AreHeld new.served (map (served_by_channel machine c.args.now) (below (n - s.cores)))) next
+          (held-more machine c.args.now place x (served_by_channel machine c.args.now) old.served new.served stands within (λ core h. ap (λ (k : KeptLists). k.served) (told.core machine core c.args.now h))
           (λ channel rows l h held. told.served machine channel c.args.now rows l h held) at.invariant.served);
     }
 
@@ -74,5 +74,5 @@ returns c =
       commands_asked = at.invariant.commands_asked;
       served_asked = at.invariant.served_asked;
       commands = subst (λ n. AreHeld at.kept.commands (map (history_of s traces c.args.now) (below n))) count at.invariant.commands;
-      served = subst (λ n. AreHeld at.kept.served (map (served_of machine c.args.now) (below n))) count at.invariant.served;
+      served = subst (λ n. AreHeld at.kept.served (map (served_by_channel machine c.args.now) (below n))) count at.invariant.served;
     }

@@ -2,7 +2,7 @@ use Rattle.std.proofs.Common.{◌≡◌, Some, List, Option, sym, ap, subst, ◌
 use Rattle.std.specs.Prelude.{All, Vec, is_some}
 use Rattle.std.specs.declared.alloc.Global.{Global}
 use Rattle.request_table.specs.Requests.{requests_of}
-use Rattle.request_table.specs.Tables.{AreServed, times_by_cycle}
+use Rattle.request_table.specs.Tables.{AreServedBetween, times_by_cycle}
 use Rattle.statistics.specs.Outcomes.{if_asked}
 use Rattle.request_table.specs.declared.served_requests.ServedRequest.{ServedRequest}
 use Rattle.sim_base.specs.History.{below}
@@ -17,7 +17,7 @@ of-requires c =
     let s = machine.config in
     let traces = machine.traces.items in
     let are = subst (λ (lists : Option (Vec (List ServedRequest) Global)). AreHeld lists (served_below machine c.args.now s.channels)) c.in-Some.is c.requires in
-    subst (λ lists. All (AreServed 0 c.args.now) lists) (sym are) (served-rise machine c.args.now (below s.channels))
+    subst (λ lists. All (AreServedBetween 0 c.args.now) lists) (sym are) (served-rise machine c.args.now (below s.channels))
 
 pub returns-in_ok-of-in-Some : goal.returns-in_ok-of-in-Some
 returns-in_ok-of-in-Some c =

@@ -3,7 +3,7 @@ use Rattle.std.proofs.Common.{◌≤◌, ◌∙◌, ap, subst, sym, arith}
 use Rattle.std.specs.Box.{with_value}
 use Rattle.channel_step.specs.Runs.{StandsAt}
 use Rattle.core_window.specs.CoreViews.{view_of}
-use Rattle.core_window.specs.Rests.{MayRest}
+use Rattle.core_window.specs.Rests.{HasSomePast}
 use Rattle.core_window.specs.Silence.{KeepsSilent}
 use Rattle.core_window.specs.declared.core_unit.Core.{Core}
 use Rattle.units.specs.Parts.{IsPart}
@@ -22,7 +22,7 @@ silent_until-requires-clause-at c =
 pub silent_until-requires-clause-stands : goal.silent_until-requires-clause-stands
 silent_until-requires-clause-stands c =
     let r = c.requires.stands in
-    subst (λ x. MayRest (view_of x)) (sym c.deref.ensures)
+    subst (λ x. HasSomePast (view_of x)) (sym c.deref.ensures)
     (core-may_rest r.machine r.unit c.in-Core.core c.args.from (subst (IsPart r.machine r.unit c.args.from) c.in-Core.is r.stands))
 
 pub next_act-requires : goal.next_act-requires

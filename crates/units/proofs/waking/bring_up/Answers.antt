@@ -3,7 +3,7 @@ use Rattle.std.proofs.Math.Seq.{get_or-append_seam}
 use Rattle.units.specs.Units.{unit_at}
 use Rattle.units.specs.Parts.{IsPart, StandAt}
 use Rattle.units.proofs.Standing.{seam-within, stand-push}
-use Rattle.units.specs.Wakes.{Waits, sleeper, sleeper_at}
+use Rattle.units.specs.Wakes.{Waits, unit_with_word, unit_with_word_at}
 use Rattle.units.specs.declared.timed_unit.TimedUnit.{TimedUnit}
 use Rattle.units.proofs.waking.bring_up.Goals as goal
 use Rattle.sim_base.proofs.Added.{length-push_suc}
@@ -25,8 +25,8 @@ brought_up-requires-clause-waits c =
     record {
       word = get_or words k 0;
       waits =
-          subst (λ (u : TimedUnit). Waits machine (unit_at machine.config c.len-place.result) now now (sleeper u (get_or words k 0))) here
-          (subst (λ i. Waits machine (unit_at machine.config i) now now (sleeper_at units words k x)) place (c.requires.wait k x less));
+          subst (λ (u : TimedUnit). Waits machine (unit_at machine.config c.len-place.result) now now (unit_with_word u (get_or words k 0))) here
+          (subst (λ i. Waits machine (unit_at machine.config i) now now (unit_with_word_at units words k x)) place (c.requires.wait k x less));
     }
 
 pub loop-unit-preserved : goal.loop-unit-preserved

@@ -1,6 +1,6 @@
 use Rattle.std.proofs.Common.{◌+◌, ◌<◌, ◌≤◌, ℕ, length, get_or, set, refl, sym, subst, arith}
 use Rattle.units.specs.Units.{unit_at}
-use Rattle.units.specs.Wakes.{WaitAll, Waits, sleeper}
+use Rattle.units.specs.Wakes.{WaitAll, Waits, unit_with_word}
 use Rattle.units.specs.declared.timed_unit.TimedUnit.{TimedUnit}
 use Rattle.units.proofs.Going.{left-holds_inbox, taken-links}
 use Rattle.units.proofs.Passing.{taken-none, taken-one, taken-all, passed-over}
@@ -60,7 +60,7 @@ woken-requires-clause-waits c =
     record {
       word = word;
       waits =
-          subst (λ (u : TimedUnit). Waits machine (unit_at machine.config (c.args.range.now.first + at.place)) span.here span.there (sleeper u word)) (sym c.index_mut.ensures.value)
+          subst (λ (u : TimedUnit). Waits machine (unit_at machine.config (c.args.range.now.first + at.place)) span.here span.there (unit_with_word u word)) (sym c.index_mut.ensures.value)
           (at.invariant.1.wait at.place unit (omega arith) (omega (arith, c.loop-place-test.true, at.range.units.ok.0)));
     }
 

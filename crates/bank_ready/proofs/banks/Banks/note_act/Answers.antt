@@ -42,7 +42,7 @@ invariant_of-self c =
 pub returns : goal.returns
 returns c row source =
     let banks = c.args.self.now in
-    let t = c.deref-delays.result.now in
+    let t = c.deref-gaps.result.now in
     let cycle = c.args.cycle in
     let bank = c.args.bank in
     let command = Act bank row source in
@@ -59,9 +59,9 @@ returns c row source =
     c.note_act_in_rank.ensures k d
     ∙ ap (λ n. cond (eqb bank.rank k) (act_pushed (rank_raised t cycle kind.Act state) (cycle + n)) state) (c.from.ensures ∙ c.four_act_window.ensures.value)
     ∙ act-tests t cycle (cycle + t.n_faw) (eqb bank.rank k) state) in
-    at_distances banks _ t banks.delays.value cycle command c.deref-delays.ensures
+    at_distances banks _ t banks.gaps.value cycle command c.deref-gaps.ensures
     (record {
-      delays = refl;
+      gaps = refl;
       act =
           joint ranks banks.act.items _ banks.act_groups.items _ _ _ _
           (lifted-own banks.act c.deref_mut-2.result.now c.raise_own.new.words bank own to_act c.deref_mut-2.ensures.value c.raise_own.auto.words c.raise_own.ensures number)

@@ -36,7 +36,7 @@ pub returns : goal.returns
 returns c command of names =
     let banks = c.args.self.now in
     let ranks = length banks.ranks.items in
-    let t = c.deref-delays.result.now in
+    let t = c.deref-gaps.result.now in
     let cycle = c.args.cycle in
     let bank = c.args.bank in
     let later = c.args.kind in
@@ -46,9 +46,9 @@ returns c command of names =
     let states =
     put-rank banks.ranks c.deref_mut-4.result.now c.raise_rank_words.new.ranks t cycle bank.rank command c.deref_mut-4.ensures.value c.raise_rank_words.auto.ranks
     (rw of c.raise_rank_words.ensures) rank (no-act (kind_of command) (rw of c.requires.kind)) in
-    at_distances banks _ t banks.delays.value cycle command c.deref-delays.ensures
+    at_distances banks _ t banks.gaps.value cycle command c.deref-gaps.ensures
     (record {
-      delays = refl;
+      gaps = refl;
       act = left (16 * ranks) (act_word banks) _ (λ k. column-acts banks t cycle command k (rw of c.requires.kind));
       rd =
           joint-groups ranks banks.rd.items banks.rd_groups.items _ _ _

@@ -30,16 +30,16 @@ pub returns : goal.returns
 returns c source =
     let banks = c.args.self.now in
     let ranks = length banks.ranks.items in
-    let t = c.deref-delays.result.now in
+    let t = c.deref-gaps.result.now in
     let cycle = c.args.cycle in
     let bank = c.args.bank in
     let command = Pre bank source in
     let number = c.own_number-own.ensures.number in
     let own = c.own_number-own.result in
     let states = put-rank banks.ranks c.deref_mut-2.result.now c.raise_rank_words.new.ranks t cycle bank.rank command c.deref_mut-2.ensures.value c.raise_rank_words.auto.ranks c.raise_rank_words.ensures refl refl in
-    at_distances banks _ t banks.delays.value cycle command c.deref-delays.ensures
+    at_distances banks _ t banks.gaps.value cycle command c.deref-gaps.ensures
     (record {
-      delays = refl;
+      gaps = refl;
       act =
           joint-own ranks banks.act.items _ banks.act_groups.items _ _
           (lifted-own banks.act c.deref_mut.result.now c.raise_own.new.words bank own c.bound_until-to_act.result c.deref_mut.ensures.value c.raise_own.auto.words c.raise_own.ensures number)

@@ -30,15 +30,15 @@ pub returns : goal.returns
 returns c =
     let banks = c.args.self.now in
     let ranks = length banks.ranks.items in
-    let t = c.deref-delays.result.now in
+    let t = c.deref-gaps.result.now in
     let cycle = c.args.cycle in
     let rank = c.args.rank in
     let command = Prea rank in
     let at = λ (k : ℕ). cond (eqb rank (k / 16)) SameBank OtherRank in
     let states = put-rank banks.ranks c.deref_mut-2.result.now c.raise_rank_words.new.ranks t cycle rank command c.deref_mut-2.ensures.value c.raise_rank_words.auto.ranks c.raise_rank_words.ensures refl refl in
-    at_distances banks _ t banks.delays.value cycle command c.deref-delays.ensures
+    at_distances banks _ t banks.gaps.value cycle command c.deref-gaps.ensures
     (record {
-      delays = refl;
+      gaps = refl;
       act =
           joint-groups ranks banks.act.items banks.act_groups.items _ _ _
           (lifted banks.act_groups c.deref_mut.result.now c.raise_rank_groups.new.words (λ g. cond (eqb rank (g / 4)) c.bound_until-to_act.result 0) c.deref_mut.ensures.value c.raise_rank_groups.auto.words

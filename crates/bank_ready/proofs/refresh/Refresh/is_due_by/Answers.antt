@@ -5,5 +5,5 @@ use Rattle.bank_ready.proofs.refresh.Refresh.is_due_by.Goals as goal
 
 pub returns : goal.returns
 returns c =
-    let none_until = c.self.inside.none_due_to in
-    sym (due_by_is c.args.self.now none_until c.args.cycle (omega arith) (subst (λ v. NoneIsDueTo v none_until) c.self.view_is c.self.invariant.none_is_due_to))
+    let none_due_to = c.self.inside.none_due_to in
+    sym (due_by_is c.args.self.now none_due_to c.args.cycle (omega arith) (subst (λ v. NoneIsDueTo v none_due_to) c.self.view_is c.self.invariant.none_is_due_to))

@@ -6,9 +6,9 @@ use Rattle.bank_ready.proofs.refresh.Refresh.next_due.Goals as goal
 pub returns-clause-next : goal.returns-clause-next
 returns-clause-next c =
     let counts = c.args.self.now in
-    let none_until = c.self.inside.none_due_to in
+    let none_due_to = c.self.inside.none_due_to in
     let some : 0 < counts.interval = omega (arith, ap (λ v. v.interval) c.self.view_is, c.if-self-eq0.false) in
-    next_is_first counts c.args.now none_until c.max.result some (subst (λ v. NoneIsDueTo v none_until) c.self.view_is c.self.invariant.none_is_due_to) c.max.ensures
+    next_is_first counts c.args.now none_due_to c.max.result some (subst (λ v. NoneIsDueTo v none_due_to) c.self.view_is c.self.invariant.none_is_due_to) c.max.ensures
 
 pub returns-clause-stands : goal.returns-clause-stands
 returns-clause-stands c s history stands =

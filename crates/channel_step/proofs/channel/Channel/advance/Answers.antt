@@ -57,10 +57,10 @@ perform-requires-clause-chosen c =
       past = past_of p.s p.channel (p.steps ++ replicate n None) there;
       command = i.command;
       is_in = c.wait.ensures.in_cycle (past_of p.s p.channel p.steps there) (c.look.ensures.in_cycle (past_of p.s p.channel p.steps there) h);
-      place = subst (λ (q : QueueView). IsFor p.s.ranks q.log c.in-Some.choice) same i.place;
+      place = subst (λ (q : QueueView). IsFor p.s.ranks q.log c.in-Some.need) same i.place;
       needed =
-          subst (λ (q : QueueView). command_of p.s (issued_commands p.channel (p.steps ++ replicate n None)) q.log c.in-Some.choice ≡ Some i.command) same
-          (subst (λ x. command_of p.s x c.arrive-arrived.new.self.queue.log c.in-Some.choice ≡ Some i.command) (sym (idle-issued p.channel p.steps n)) i.needed);
+          subst (λ (q : QueueView). command_of p.s (issued_commands p.channel (p.steps ++ replicate n None)) q.log c.in-Some.need ≡ Some i.command) same
+          (subst (λ x. command_of p.s x c.arrive-arrived.new.self.queue.log c.in-Some.need ≡ Some i.command) (sym (idle-issued p.channel p.steps n)) i.needed);
       is_chosen = i.is_next.command_is;
     }
 
@@ -142,8 +142,8 @@ returns-in_ok-perform-in-Some-clause-done c s channel steps mail stands at f =
     let then = steps ++ replicate idle None in
     let len : length then ≡ c.in-Some.cycle = omega (arith, length-idle steps idle) in
     let same = sym (c.wait.ensures.same_queue ∙ c.look.ensures.same_queue) in
-    let needed : command_of s (issued_commands channel then) c.wait.new.self.queue.log c.in-Some.choice ≡ Some i.command =
-    ap₂ (λ x (q : QueueView). command_of s x q.log c.in-Some.choice) (idle-issued channel steps idle) (sym same) ∙ i.needed in
+    let needed : command_of s (issued_commands channel then) c.wait.new.self.queue.log c.in-Some.need ≡ Some i.command =
+    ap₂ (λ x (q : QueueView). command_of s x q.log c.in-Some.need) (idle-issued channel steps idle) (sym same) ∙ i.needed in
     let after = (c.in_ok-perform-in-Some.ensures {u = tt}) (past_of s channel then there) k i.command needed i.is_next.command_is in
     record {
       issued = issued_now channel c.in-Some.cycle (Some i.command);

@@ -11,7 +11,7 @@ use Rattle.queue.specs.View.{QueueView}
 use Rattle.sim_base.specs.Places.{bank_at}
 use Rattle.queue.specs.Stands.{bank_count, StandsFor as CandidatesStandFor}
 use Rattle.channel_step.specs.FrFcfs.Requests.{IsInBanks}
-use Rattle.channel_step.specs.Past.{requests_of, past_of}
+use Rattle.channel_step.specs.Past.{carried_requests, past_of}
 use Rattle.channel_step.specs.Queued.{with_arrivals}
 use Rattle.channel_step.specs.Channels.{IsInCycle}
 use Rattle.channel_step.specs.declared.channel.Channel.{Channel}
@@ -35,7 +35,7 @@ on_arrival-requires-clause-banks c =
     let due = c.due_count-due.ensures ∙ due_count-is inbox c.args.now in
     let p = c.requires.can_run in
     let h = c.make_room.ensures.stands p.s p.channel p.steps p.mail p.stands in
-    let joined = c.admit.ensures ∙ ap (λ k. with_arrivals y.queue (requests_of (take k inbox))) due in
+    let joined = c.admit.ensures ∙ ap (λ k. with_arrivals y.queue (carried_requests (take k inbox))) due in
     subst (All (λ (a : Arrived). bank_number a.request.place < bank_count y.bank_candidates)) (sym (ap (λ (v : LogView). v.log) c.log-2.ensures))
     (arrived-in_banks y (past_of p.s p.channel p.steps p.mail) inbox c.args.now c.requires.until q h p.at p.fit joined)
 
@@ -46,7 +46,7 @@ on_arrival-requires-clause-waits c =
     let q = c.admit.new.queue in
     let older = c.len-older.ensures.value ∙ ap (λ (v : LogView). length v.log) c.log.ensures in
     subst (λ l. All (λ (a : Arrived). a.waits ≡ true) (drop c.len-older.result l)) (sym (ap (λ (v : LogView). v.log) c.log-2.ensures))
-    (log-after y (requests_of (take c.due_count-due.result inbox)) c.len-older.result q older c.admit.ensures)
+    (log-after y (carried_requests (take c.due_count-due.result inbox)) c.len-older.result q older c.admit.ensures)
 
 pub reconsider-requires-clause-places : goal.reconsider-requires-clause-places
 reconsider-requires-clause-places c =
@@ -56,7 +56,7 @@ reconsider-requires-clause-places c =
     let due = c.due_count-due.ensures ∙ due_count-is inbox c.args.now in
     let p = c.requires.can_run in
     let h = c.make_room.ensures.stands p.s p.channel p.steps p.mail p.stands in
-    let joined = c.admit.ensures ∙ ap (λ k. with_arrivals y.queue (requests_of (take k inbox))) due in
+    let joined = c.admit.ensures ∙ ap (λ k. with_arrivals y.queue (carried_requests (take k inbox))) due in
     subst (λ n. All (IsInBanks n) (all_requests q.log)) (sym h.banks_stand.ranks)
     (arrived-places y (past_of p.s p.channel p.steps p.mail) inbox c.args.now c.requires.until q h p.at p.fit joined)
 
@@ -69,7 +69,7 @@ reconsider-requires-clause-next_command c =
     let h = c.make_room.ensures.stands p.s p.channel p.steps p.mail p.stands in
     let older = c.len-older.ensures.value ∙ ap (λ (v : LogView). length v.log) c.log.ensures in
     next_command-for p.s (issued_commands p.channel p.steps) c.len-older.result (rank_count y.banks) y.queue q y.cycle y.next_command h.banks_stand.ranks
-    (log-before y (requests_of (take c.due_count-due.result inbox)) c.len-older.result q older c.admit.ensures) (next_command-from _ _ _ _ _ h.foresees)
+    (log-before y (carried_requests (take c.due_count-due.result inbox)) c.len-older.result q older c.admit.ensures) (next_command-from _ _ _ _ _ h.foresees)
 
 pub returns-clause-in_cycle : goal.returns-clause-in_cycle
 returns-clause-in_cycle c s channel steps mail stands until at l f =
@@ -80,10 +80,10 @@ returns-clause-in_cycle c s channel steps mail stands until at l f =
     let history = issued_commands channel steps in
     let rows : ℕ → Option ℕ = λ n. open_row (bank_at n) history in
     let h = c.make_room.ensures.stands s channel steps mail stands in
-    let joined = c.admit.ensures ∙ ap (λ k. with_arrivals y.queue (requests_of (take k inbox))) due in
+    let joined = c.admit.ensures ∙ ap (λ k. with_arrivals y.queue (carried_requests (take k inbox))) due in
     let older = c.len-older.ensures.value ∙ ap (λ (v : LogView). length v.log) c.log.ensures in
     let shown : c.log-2.result.now.log ≡ q.log = ap (λ (v : LogView). v.log) c.log-2.ensures in
-    let before = log-before y (requests_of (take c.due_count-due.result inbox)) c.len-older.result q older c.admit.ensures in
+    let before = log-before y (carried_requests (take c.due_count-due.result inbox)) c.len-older.result q older c.admit.ensures in
     let old =
     subst (λ l. CandidatesStandFor y.bank_candidates (take c.len-older.result l) rows) (sym shown)
     (subst (λ l. CandidatesStandFor y.bank_candidates l rows) before h.candidates_stand) in

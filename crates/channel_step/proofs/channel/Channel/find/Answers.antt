@@ -30,12 +30,12 @@ pub returns-in-Known-Some : goal.returns-in-Known-Some
 returns-in-Known-Some c s history stand known l =
     let x = c.args.self.now in
     let i = c.in-Known-Some in
-    let is : i.field-0 ≡ Some (i.cycle, i.choice) = rw i.is at i.field-0-is in
+    let is : i.field-0 ≡ Some (i.cycle, i.need) = rw i.is at i.field-0-is in
     let then = subst (IsNextCommand s history x.queue x.cycle) (i.is ∙ ap Known is) known in (
       record {
         from_now = c.if-now-cycle.true;
         then_is = then.then_is;
-        there_is = ap is_some (needs s history x.queue.log i.choice then.place).1;
+        there_is = ap is_some (needs s history x.queue.log i.need then.place).1;
         none_before = λ t k. then.none_before t (omega arith);
       },
       then.place,

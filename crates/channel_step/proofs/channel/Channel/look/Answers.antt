@@ -17,7 +17,7 @@ pub returns-in-Some-clause-next : goal.returns-in-Some-clause-next
 returns-in-Some-clause-next c past h at =
     let x = c.args.self.now in
     let found = (c.in-Some.ensures {u = tt}) past.config (commands_after past) (cycle-stands x past h) (next_command-from _ _ _ _ _ h.foresees) (omega (arith, h.cycle_is, at)) in
-    found-before x past c.args.now c.args.end c.in-Some.cycle c.in-Some.choice h at found.0 found.1 c.if-cycle-end.true
+    found-before x past c.args.now c.args.end c.in-Some.cycle c.in-Some.need h at found.0 found.1 c.if-cycle-end.true
 
 pub returns-in_default-clause-in_cycle : goal.returns-in_default-clause-in_cycle
 returns-in_default-clause-in_cycle c past h =

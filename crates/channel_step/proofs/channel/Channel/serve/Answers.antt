@@ -47,11 +47,11 @@ returns c past h chosen =
     c.log-3.ensures.log ∙ ap (λ (v : LogView). v.log) c.log-2.ensures ∙ ap (λ (q : QueueView). q.log) c.serve-unblocked.ensures.log in
     let left : get_or c.log-3.result.now place absent ≡ record (get_or x.queue.log place absent) { waits = false } =
     ap (λ l. get_or l place absent) then ∙ get_or-set_same x.queue.log place (record (get_or x.queue.log place absent) { waits = false }) absent c.requires.within in
-    subst (λ b. IsReadied (record x { queue = c.serve-unblocked.new.self; bank_candidates = c.on_service.new.self; served = c.keep_served.new.kept }) past (column_command r) b)
+    subst (λ b. IsReadied (record x { queue = c.serve-unblocked.new.self; bank_candidates = c.on_service.new.self; served = c.note_served.new.kept }) past (column_command r) b)
     (sym (ap (λ (a : Arrived). not a.activated) left))
-    (subst (λ (q : QueueView). IsReadied (record x { queue = q; bank_candidates = c.on_service.new.self; served = c.keep_served.new.kept }) past (column_command r) hit) (sym c.serve-unblocked.ensures.log)
-    (served-readied x past place c.on_service.new.self c.keep_served.new.kept h c.requires.within c.requires.waits chosen c.on_service.ensures.banks stands
-    (c.in_ok-keep_served.ensures ∙ ap (λ (a : Arrived). with_more (kept_rows x.served) (served_now x.number x.cycle a.request (not a.activated) ∷ [])) left)))
+    (subst (λ (q : QueueView). IsReadied (record x { queue = q; bank_candidates = c.on_service.new.self; served = c.note_served.new.kept }) past (column_command r) hit) (sym c.serve-unblocked.ensures.log)
+    (served-readied x past place c.on_service.new.self c.note_served.new.kept h c.requires.within c.requires.waits chosen c.on_service.ensures.banks stands
+    (c.in_ok-note_served.ensures ∙ ap (λ (a : Arrived). with_more (kept_rows x.served) (served_now x.number x.cycle a.request (not a.activated) ∷ [])) left)))
 
 pub serve-unblocked-requires-clause-within : goal.serve-unblocked-requires-clause-within
 serve-unblocked-requires-clause-within c = c.requires.within

@@ -20,8 +20,8 @@ overflow_add-retired_by_end c = let h : IsSound (view_of c.args.self.now) = soun
 pub returns-clause-does : goal.returns-clause-does
 returns-clause-does c v s core trace steps mail i h =
     let a = view_of c.args.self.now in
-    let first_at = c.args.self.now.found.first_at in
-    let second_at = c.args.self.now.found.second_at in
+    let first_at = c.args.self.now.ahead.first_at in
+    let second_at = c.args.self.now.ahead.second_at in
     let r = c.retire_count-retired.result in
     let retired_by_end = a.stats.retired + r in
     let full : Bool = ltb first_at (length a.trace) && lacks_credit a.config core mail (core_messages s core trace steps) (length steps) (slice_get a.trace first_at) in
@@ -32,7 +32,7 @@ returns-clause-does c v s core trace steps mail i h =
       | then-self-near w ↦
           let inside : first_at < length a.trace = omega arith in
           w.lacks-is
-          ∙ lacks_here s core trace steps mail a v c.args.self.now.found.entry w.is_without_credit-lacks.result i h
+          ∙ lacks_here s core trace steps mail a v c.args.self.now.ahead.entry w.is_without_credit-lacks.result i h
           (λ held says. w.is_without_credit-lacks.ensures a.config held c.args.self.now.known.placed (λ channel b. ap (λ (cs : List Credits). slice_get cs channel) w.deref.ensures.value ∙ says channel b))
           ∙ ap (lacks_credit a.config core mail (core_messages s core trace steps) (length steps)) (sym (seen.is_at inside))
           ∙ ap lack (sym (lt-ltb first_at (length a.trace) inside))
@@ -68,5 +68,5 @@ returns-clause-within c =
     let h : IsSound (view_of c.args.self.now) = sound _ c.requires in
     let a = view_of c.args.self.now in
     let retired_by_end = a.stats.retired + c.retire_count-retired.result in
-    issues_within a.trace a.config.width a.config.window a.stats.issued retired_by_end c.args.self.now.found.first_at c.args.self.now.found.second_at c.issue_of-issue.result.count c.if-self-near.lacks c.args.self.now.seen.ahead h.issued
-    (c.issue_of-issue.ensures.count ∙ ap (λ n. issue_count a.config.width a.config.window a.stats.issued (a.stats.retired + n) c.args.self.now.found.first_at c.args.self.now.found.second_at c.if-self-near.lacks) c.from.ensures)
+    issues_within a.trace a.config.width a.config.window a.stats.issued retired_by_end c.args.self.now.ahead.first_at c.args.self.now.ahead.second_at c.issue_of-issue.result.count c.if-self-near.lacks c.args.self.now.seen.ahead h.issued
+    (c.issue_of-issue.ensures.count ∙ ap (λ n. issue_count a.config.width a.config.window a.stats.issued (a.stats.retired + n) c.args.self.now.ahead.first_at c.args.self.now.ahead.second_at c.if-self-near.lacks) c.from.ensures)

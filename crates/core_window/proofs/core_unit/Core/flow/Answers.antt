@@ -13,7 +13,7 @@ flow_of-requires-clause-room c = (sound (view_of c.args.self.now) c.requires).wi
 
 pub returns-clause-steady : goal.returns-clause-steady
 returns-clause-steady c =
-    flow-here (view_of c.args.self.now) c.args.self.now.found.first_at c.args.self.now.found.second_at c.flow_of.result.retired c.flow_of.result.cycles c.saturating_sub-2.result _
+    flow-here (view_of c.args.self.now) c.args.self.now.ahead.first_at c.args.self.now.ahead.second_at c.flow_of.result.retired c.flow_of.result.cycles c.saturating_sub-2.result _
     c.args.self.now.seen.ahead (sound (view_of c.args.self.now) c.requires).retired (omega (arith, c.args.self.now.config.core_in_range.width_in)) c.flow_of.ensures.plain
     (omega (arith, c.len.ensures.value)) c.as_slice.ensures c.flow_of.ensures.flow
 

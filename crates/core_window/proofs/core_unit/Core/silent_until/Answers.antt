@@ -7,7 +7,7 @@ use Rattle.core_window.proofs.core_unit.Core.silent_until.Goals as goal
 
 pub returns-in-Some-clause-silent : goal.returns-in-Some-clause-silent
 returns-in-Some-clause-silent c =
-    plain-silent (view_of c.args.self.now) c.args.self.now.found.first_at c.args.self.now.found.second_at c.plain_cycles.result c.saturating_add.result c.args.self.now.found.entry
+    plain-silent (view_of c.args.self.now) c.args.self.now.ahead.first_at c.args.self.now.ahead.second_at c.plain_cycles.result c.saturating_add.result c.args.self.now.ahead.entry
     c.args.self.now.seen c.plain_cycles.ensures (omega (arith, c.requires.at, c.saturating_add.ensures))
 
 pub returns-in-None-clause-silent : goal.returns-in-None-clause-silent

@@ -48,7 +48,7 @@ returns-clause-advances c =
       outstanding = c.in_ok-wait_for.ensures {u = tt};
       channels = ap length kept ∙ c.spend.auto.credits ∙ ap length c.deref_mut.ensures.value;
       credits = λ channel x e. ap (λ (cs : List Credits). slice_get cs channel) kept
-          ∙ c.spend.ensures c.args.self.now.config (issued-placed c.args.self.now.config c.args.self.now.trace c.args.self.now.found c.args.cycle_work.memory c.args.self.now.known c.requires.entry) channel x (ap (λ (cs : List Credits). slice_get cs channel) c.deref_mut.ensures.value ∙ e);
+          ∙ c.spend.ensures c.args.self.now.config (issued-placed c.args.self.now.config c.args.self.now.trace c.args.self.now.ahead c.args.cycle_work.memory c.args.self.now.known c.requires.entry) channel x (ap (λ (cs : List Credits). slice_get cs channel) c.deref_mut.ensures.value ∙ e);
       stats = c.count_cycle.ensures
           ∙ ap (λ (st : CoreStats). core_joined st (cycle_counts c.args.cycle_work.core_step c.args.cycle_work.why None st.retired c.len-len.result c.args.self.now.cycle)) c.count_memory.ensures
           ∙ memory-counted c.args.self.now.stats c.args.cycle_work.core_step c.args.cycle_work.why c.args.cycle_work.memory c.len-len.result c.args.self.now.cycle
@@ -57,7 +57,7 @@ returns-clause-advances c =
     (c.in_ok-send.ensures {u = tt})
 
 pub send-requires-clause-placed : goal.send-requires-clause-placed
-send-requires-clause-placed c = issued-placed c.args.self.now.config c.args.self.now.trace c.args.self.now.found c.args.cycle_work.memory c.args.self.now.known c.requires.entry
+send-requires-clause-placed c = issued-placed c.args.self.now.config c.args.self.now.trace c.args.self.now.ahead c.args.cycle_work.memory c.args.self.now.known c.requires.entry
 
 pub look_ahead-requires-clause-seen : goal.look_ahead-requires-clause-seen
 look_ahead-requires-clause-seen c =

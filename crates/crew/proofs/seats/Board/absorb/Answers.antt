@@ -5,4 +5,4 @@ use Rattle.crew.proofs.seats.Board.absorb.Goals as goal
 pub absorb-requires-clause-rule : goal.absorb-requires-clause-rule
 absorb-requires-clause-rule g c =
     let is = c.theirs.invariant.1 in
-    absorbs _ _ _ _ (ap (λ u. u.parts) is) (ap (λ u. u.put) is)
+    absorbs _ _ _ _ (ap (λ u. u.may_put) is) (ap (λ u. u.put) is)

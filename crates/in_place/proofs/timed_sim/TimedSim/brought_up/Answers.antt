@@ -21,7 +21,7 @@ brought_up-requires-clause-count c =
 pub brought_up-requires-clause-wait : goal.brought_up-requires-clause-wait
 brought_up-requires-clause-wait c =
     let f = c.self.inside in
-    subst (λ (x : Machine). WaitAll x 0 f.now f.now (all_units f.kinds) (all_words f.kinds)) (sym c.deref.ensures) c.self.invariant.asleep.wait
+    subst (λ (x : Machine). WaitAll x 0 f.now f.now (all_units f.kinds) (all_words f.kinds)) (sym c.deref.ensures) c.self.invariant.between_phases.wait
 
 pub invariant_of-result : goal.invariant_of-result
 invariant_of-result c =
@@ -32,10 +32,10 @@ invariant_of-result c =
     let brought = c.in_ok-parts.ensures {u = tt} in
     record {
       counted = h.counted;
-      early = h.asleep.early;
+      early = h.between_phases.early;
       count = subst (λ (x : Machine). length parts ≡ unit_count x.config) c.deref.ensures brought.count;
       stand = subst (λ (x : Machine). StandAt x f.now parts) c.deref.ensures brought.stand;
-      flight = h.asleep.flight
+      flight = h.between_phases.flight
           ∙ ap {B = InFlight} (λ n. record { channels = m.config.channels; messages = among m.config 0 n (flight_at m f.now) }) (let e : 0 + length (all_units f.kinds) ≡ unit_count m.config = omega (arith, h.count) in e)
           ∙ ap {B = InFlight} (λ z. record { channels = m.config.channels; messages = z }) (among-all m.config m.traces.items f.now);
     }

@@ -21,5 +21,5 @@ invariant_of-result c =
       counted = sim.counted;
       by_kind = subst (λ (x : Machine). AreByKind x kinds) c.deref.ensures made.by_kind;
       count = made.units.count ∙ sim.count;
-      asleep = awake-sim m f.now f.phase f.parts.items f.links (all_units kinds) (all_words kinds) sim made.units made.words;
+      between_phases = awake-sim m f.now f.phase f.parts.items f.links (all_units kinds) (all_words kinds) sim made.units made.words;
     }

@@ -4,7 +4,7 @@ use Rattle.queue.specs.declared.request_log.Arrived.{Arrived}
 use Rattle.queue.specs.Log.{waiting_requests}
 use Rattle.queue.specs.Columns.{tag_column}
 use Rattle.queue.proofs.Tags.{length-tags}
-use Rattle.queue.proofs.Told.{found_asked}
+use Rattle.queue.proofs.TagSearch.{found_asked}
 use Rattle.queue.proofs.request_log.RequestLog.is_line_found.Goals as goal
 
 pub next_for_line-requires : goal.next_for_line-requires

@@ -7,8 +7,8 @@ use Rattle.queue.specs.declared.request_log.Arrived.{Arrived}
 use Rattle.queue.specs.Marks.{is_marked}
 use Rattle.queue.specs.Log.{LogView, absent, served_at, waits_at, waiting_requests, eligible_column, unblocked_by}
 use Rattle.queue.specs.Columns.{counter_of_line, counter_of_row, line_counter, bank_number, tag_word, served_tag, tag_column, blocked_count, AreCounted}
-use Rattle.queue.specs.Lines.{NoneTold, IsFoundAt}
-use Rattle.queue.specs.RequestLogKept.{AreKept}
+use Rattle.queue.specs.Lines.{NoneTaggedAs, IsFoundAt}
+use Rattle.queue.specs.RequestLogKept.{AreTagged}
 use Rattle.queue.proofs.Counted.{none_asks}
 use Rattle.queue.proofs.Places.{length-served}
 use Rattle.queue.proofs.Tags.{length-tags}
@@ -53,7 +53,7 @@ left : (c : After-index_mut-4) (tags : Vec ℕ Global) (blocked : ℕ) → c.arg
     → set c.self.inside.log.items c.args.place (record c.index_mut.result.now { waits = false }) ≡ served_at c.self.inside.log.items c.args.place
     → tags.items ≡ tag_column (served_at c.self.inside.log.items c.args.place) → vec_capacity tags ≡ vec_capacity c.self.inside.tags
     → blocked ≡ blocked_count (served_at c.self.inside.log.items c.args.place)
-    → AreKept (record c.self.inside {
+    → AreTagged (record c.self.inside {
       log = with_item c.self.inside.log c.args.place (record c.index_mut.result.now { waits = false });
       tags = tags;
       blocked = blocked;
@@ -95,7 +95,7 @@ left_alone : (c : After-index_mut-4) (blocked : ℕ) → c.args.place < length c
     → set c.self.inside.log.items c.args.place (record c.index_mut.result.now { waits = false }) ≡ served_at c.self.inside.log.items c.args.place
     → eligible_column (served_at c.self.inside.log.items c.args.place) ≡ set (eligible_column c.self.inside.log.items) c.args.place 0
     → blocked + cond (not (is_marked (get_or (eligible_column c.self.inside.log.items) c.args.place 0))) 1 0 ≡ c.self.inside.blocked
-    → AreKept (record c.self.inside {
+    → AreTagged (record c.self.inside {
       log = with_item c.self.inside.log c.args.place (record c.index_mut.result.now { waits = false });
       tags = with_item c.self.inside.tags c.args.place served_tag;
       blocked = blocked;
@@ -220,7 +220,7 @@ next_for_line-requires whole =
 
 -- none behind waits for the line where the search finds none
 none_found : (c : After-index_mut) (log : List Arrived) (tags : List ℕ) → log ≡ set c.self.inside.log.items c.args.place (record c.index_mut.result.now { waits = false })
-    → tags ≡ set c.self.inside.tags.items c.args.place served_tag → NoneTold false c.index.result.now.request.place log tags (c.args.place + 1) (length log)
+    → tags ≡ set c.self.inside.tags.items c.args.place served_tag → NoneTaggedAs false c.index.result.now.request.place log tags (c.args.place + 1) (length log)
     → NoneBehind c.self.inside.log.items c.args.place (length c.self.inside.log.items)
 none_found c log tags log_left tags_left none =
     let q = c.self.inside in

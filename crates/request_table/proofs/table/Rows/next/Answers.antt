@@ -1,7 +1,7 @@
 use Rattle.std.proofs.Common.{◌≡◌, [], ◌∷◌, List, set, sym, subst, ap₂, ◌∙◌}
 use Rattle.std.specs.Prelude.{All}
 use Rattle.request_table.specs.declared.served_requests.ServedRequest.{ServedRequest}
-use Rattle.request_table.specs.Tables.{AreServed, times_by_cycle}
+use Rattle.request_table.specs.Tables.{AreServedBetween, times_by_cycle}
 use Rattle.request_table.specs.Lefts.{IsNext}
 use Rattle.request_table.proofs.Reading.{times-next, no-row, all-served-rest}
 use Rattle.request_table.proofs.table.Rows.next.Goals as goal
@@ -17,7 +17,7 @@ invariant_of-self-2 c =
     let lists = c.self.inside.lefts.items in
     let place = c.in_ok-place.place in
     let next : IsNext lists place = subst (λ z. IsNext z place) c.deref.ensures.value c.in_ok-place.ensures in
-    subst (λ rest. All (AreServed 0 c.self.inside.cycles) (set lists place rest)) (sym c.in_ok-request.ensures.rest)
+    subst (λ rest. All (AreServedBetween 0 c.self.inside.cycles) (set lists place rest)) (sym c.in_ok-request.ensures.rest)
     (all-served-rest c.self.inside.cycles lists place c.index_mut.result.now c.self.invariant next.next.within c.index_mut.ensures.value)
 
 pub returns-clause-some : goal.returns-clause-some

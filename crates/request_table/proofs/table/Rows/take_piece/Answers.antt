@@ -1,7 +1,7 @@
 use Rattle.std.proofs.Common.{◌++◌, map, sym, ap, ap₂, subst, ◌∙◌, leb, ltb}
 use Rattle.std.specs.Prelude.{All}
 use Rattle.request_table.specs.declared.served_requests.ServedRequest.{ServedRequest}
-use Rattle.request_table.specs.Tables.{AreServed, rows_up_to, rows_after, times_by_cycle}
+use Rattle.request_table.specs.Tables.{AreServedBetween, rows_up_to, rows_after, times_by_cycle}
 use Rattle.request_table.proofs.Cutting.{times-parts, all-served-filter}
 use Rattle.request_table.proofs.table.Rows.take_piece.Goals as goal
 
@@ -11,7 +11,7 @@ of-requires c =
     let lists = c.self.inside.lefts.items in
     let cycle = c.in-Some.cycle in
     let are = c.in_ok-before.ensures {u = tt} ∙ ap (map (rows_up_to cycle)) c.deref-2.ensures.value in
-    subst (λ lefts. All (AreServed 0 cycles) lefts) (sym are) (all-served-filter (λ (row : ServedRequest). leb row.served cycle) cycles lists c.self.invariant)
+    subst (λ lefts. All (AreServedBetween 0 cycles) lefts) (sym are) (all-served-filter (λ (row : ServedRequest). leb row.served cycle) cycles lists c.self.invariant)
 
 pub invariant_of-self : goal.invariant_of-self
 invariant_of-self c =
@@ -19,7 +19,7 @@ invariant_of-self c =
     let lists = c.self.inside.lefts.items in
     let cycle = c.in-Some.cycle in
     let are = c.in_ok-self-inside.ensures {u = tt} ∙ ap (map (rows_after cycle)) c.deref-3.ensures.value in
-    subst (λ lefts. All (AreServed 0 cycles) lefts) (sym are) (all-served-filter (λ (row : ServedRequest). ltb cycle row.served) cycles lists c.self.invariant)
+    subst (λ lefts. All (AreServedBetween 0 cycles) lefts) (sym are) (all-served-filter (λ (row : ServedRequest). ltb cycle row.served) cycles lists c.self.invariant)
 
 pub returns : goal.returns
 returns c =

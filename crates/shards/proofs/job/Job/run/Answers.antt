@@ -8,7 +8,7 @@ use Rattle.std.proofs.lemmas.List.{with_items_is}
 use Rattle.links.specs.InFlight.{InFlight}
 use Rattle.sim_base.specs.Locality.{TravelsFor}
 use Rattle.shards.specs.Lists.{AllEmpty, AreSortedByShard, lists_of, with_lists}
-use Rattle.shards.specs.Shards.{HasShardRun, HoldWhatWasSent, IsOfMachine, IsSplit, Sleeps, sent_of_shard}
+use Rattle.shards.specs.Shards.{HasShardRun, HoldWhatWasSent, IsOfMachine, IsSplit, IsBetweenPhases, sent_of_shard}
 use Rattle.shards.specs.Jobs.{IsDone, JobView}
 use Rattle.units.specs.Wakes.{AreLowered}
 use Rattle.units.specs.declared.machine.Machine.{Machine}
@@ -71,8 +71,8 @@ returns c =
     let bounds = went.bounds ∙ ap (λ (x : Shard). x.bounds) up ∙ ap (λ (x : Shard). x.bounds) old in
     ap₂ {C = JobView} (λ (m : Arc Machine Global) (b : Vec ℕ Global). record { machine = arc_value m; bounds = b.items; name = name }) machine bounds ∙ c.self.view_is
 
-pub go-requires-clause-asleep : goal.go-requires-clause-asleep
-go-requires-clause-asleep c =
+pub go-requires-clause-between_phases : goal.go-requires-clause-between_phases
+go-requires-clause-between_phases c =
     let f = c.self.inside in
     let shard = f.shard.value in
     let m = arc_value shard.machine in
@@ -86,7 +86,7 @@ go-requires-clause-asleep c =
     subst (λ (x : Shard). AreLowered (arc_value x.machine).config x.range.first (lists_of f.inbound.items) x.range.words.items new.range.words.items) old
     (subst (λ ls. AreLowered (arc_value c.deref_mut.result.now.machine).config c.deref_mut.result.now.range.first (lists_of ls) c.deref_mut.result.now.range.words.items new.range.words.items) lists up.words) in
     let links = up.links ∙ ap₂ {C = InFlight} (λ (x : Shard) ls. with_lists x.traffic.links ls) old lists in
-    subst (λ (x : Shard). Sleeps (arc_value x.machine) f.name.from x) (sym same)
+    subst (λ (x : Shard). IsBetweenPhases (arc_value x.machine) f.name.from x) (sym same)
     (taken-up m shard.bounds.items f.name.shard f.name.from shard f.inbound.items new.range.words.items new.traffic.links c.self.invariant.before low links)
 
 pub invariant_of-result : goal.invariant_of-result

@@ -24,7 +24,7 @@ returns-clause-since c =
     ∙ subst (λ (y : Machine). traffic.lists.sent.items ≡ sent_by y now until old.range.first (length old.range.units.items)) c.deref.ensures has_run.sent in
     let arrive : All (λ m. until ≤ m.arrival) c.deref-2.result.now =
     subst (All (λ (y : Message). until ≤ y.arrival)) (sym sent)
-    (part-late m now until old.range.first (length old.range.units.items) c.requires.asleep.within (omega (arith, c.requires.order)) c.requires.travels) in
+    (part-late m now until old.range.first (length old.range.units.items) c.requires.between_phases.within (omega (arith, c.requires.order)) c.requires.travels) in
     let least = least-since c.deref-3.result.now until (omega (arith, c.ranges.until.fits)) later in
     c.first_arrival.ensures.since until (omega (arith, least, c.least.ensures)) arrive
 

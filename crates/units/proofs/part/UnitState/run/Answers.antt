@@ -11,8 +11,8 @@ use Rattle.channel_step.specs.declared.channel.Channel.{Channel}
 use Rattle.channel_step.specs.Runs.{CanRun, IsDone}
 use Rattle.core_window.specs.CoreViews.{view_of}
 use Rattle.core_window.specs.declared.core_unit.Core.{Core}
-use Rattle.core_window.specs.Fit.{MayRun, RunsOnto}
-use Rattle.units.specs.SpanLaws.Channels.{Gives}
+use Rattle.core_window.specs.Fit.{CanRun as CoreCanRun, RunsOnto}
+use Rattle.units.specs.SpanLaws.Channels.{ChannelRunsOver}
 use Rattle.units.specs.Parts.{IsReadyFor, HasRunOnto}
 use Rattle.units.specs.declared.part.UnitState.TheVariants as part
 use Rattle.units.proofs.Running.{core-at, core-may_run, core-has_run, channel-can_run, channel-has_run}
@@ -27,7 +27,7 @@ run-requires-clause-at c =
 pub run-requires-clause-fit : goal.run-requires-clause-fit
 run-requires-clause-fit c =
     let r = c.requires.ready in
-    subst (λ x. MayRun (view_of x) c.args.from c.args.until c.args.inbox.now) (sym c.deref_mut.ensures.value)
+    subst (λ x. CoreCanRun (view_of x) c.args.from c.args.until c.args.inbox.now) (sym c.deref_mut.ensures.value)
     (core-may_run r.machine r.unit c.in-Core.core c.args.inbox.now c.args.from c.args.until (subst (λ p. IsReadyFor r.machine r.unit p c.args.inbox.now c.args.from c.args.until) c.in-Core.is r.ready))
 
 pub run-requires-in-Channel-clause-can_run : goal.run-requires-in-Channel-clause-can_run
@@ -61,6 +61,6 @@ returns-in-Channel c machine unit ready = go c.run-in-Channel.result _ refl c.ru
     go (Ok x) d is h =
         channel-has_run machine unit c.in-Channel.channel d c.in-Channel.issued c.run-in-Channel.new.commands c.args.inbox.now _ _ c.args.from c.args.until
         (subst (λ p. IsReadyFor machine unit p c.args.inbox.now c.args.from c.args.until) c.in-Channel.is ready)
-        (subst (λ e. Gives c.in-Channel.channel.value c.args.inbox.now c.args.from c.args.until e c.in-Channel.issued c.run-in-Channel.new.commands c.args.sent.now.items c.run-in-Channel.new.messages.items) (sym is)
-        (subst (λ e. Gives e c.args.inbox.now c.args.from c.args.until c.run-in-Channel.new.self c.in-Channel.issued c.run-in-Channel.new.commands c.args.sent.now.items c.run-in-Channel.new.messages.items) c.deref_mut-in-Channel.ensures.value h))
+        (subst (λ e. ChannelRunsOver c.in-Channel.channel.value c.args.inbox.now c.args.from c.args.until e c.in-Channel.issued c.run-in-Channel.new.commands c.args.sent.now.items c.run-in-Channel.new.messages.items) (sym is)
+        (subst (λ e. ChannelRunsOver e c.args.inbox.now c.args.from c.args.until c.run-in-Channel.new.self c.in-Channel.issued c.run-in-Channel.new.commands c.args.sent.now.items c.run-in-Channel.new.messages.items) c.deref_mut-in-Channel.ensures.value h))
     go (Err e) d is h = tt

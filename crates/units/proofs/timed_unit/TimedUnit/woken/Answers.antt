@@ -5,7 +5,7 @@ use Rattle.links.specs.InFlight.{InFlight, is_due}
 use Rattle.units.specs.SpanLaws.Mail.{mail_in}
 use Rattle.units.proofs.SpanLaws.Silent.{silent-sooner}
 use Rattle.units.specs.Units.{unit_at}
-use Rattle.units.specs.Wakes.{sleeper}
+use Rattle.units.specs.Wakes.{unit_with_word}
 use Rattle.units.proofs.Due.{exists-at}
 use Rattle.units.proofs.Going.{held-mail, held-links}
 use Rattle.units.proofs.Lowering.{taken-later}
@@ -22,7 +22,7 @@ run_and_tell-requires c =
     let here = c.args.span.now.here in
     let there = c.args.span.now.there in
     let until = c.args.span.now.until in
-    let ready = woken-ready machine u here there until (sleeper c.args.self.now r.waits.word) c.deref.result.now (exists-at s c.args.place r.place) r.order r.early r.holds_inbox.known r.waits.waits
+    let ready = woken-ready machine u here there until (unit_with_word c.args.self.now r.waits.word) c.deref.result.now (exists-at s c.args.place r.place) r.order r.early r.holds_inbox.known r.waits.waits
     (c.deref.ensures.value
     ∙ held-mail machine here there until u c.unit_at-unit.result c.args.traffic.now.links c.take_due_into.new.inbox.items r.holds_inbox c.unit_at-unit.ensures c.in_ok-take_due_into.ensures.ok) in
     record { ready = record { machine = machine; unit = u; ready = ready } }
@@ -37,7 +37,7 @@ arrival_word-requires c =
     let here = c.args.span.now.here in
     let there = c.args.span.now.there in
     let until = c.args.span.now.until in
-    let ready = woken-ready machine u here there until (sleeper c.args.self.now r.waits.word) c.deref.result.now (exists-at s c.args.place r.place) r.order r.early r.holds_inbox.known r.waits.waits
+    let ready = woken-ready machine u here there until (unit_with_word c.args.self.now r.waits.word) c.deref.result.now (exists-at s c.args.place r.place) r.order r.early r.holds_inbox.known r.waits.waits
     (c.deref.ensures.value
     ∙ held-mail machine here there until u c.unit_at-unit.result c.args.traffic.now.links c.take_due_into.new.inbox.items r.holds_inbox c.unit_at-unit.ensures c.in_ok-take_due_into.ensures.ok) in
     (c.in_ok-send.ensures {u = tt} machine u ready).since
@@ -52,7 +52,7 @@ returns-clause-has_run c =
     let here = c.args.span.now.here in
     let there = c.args.span.now.there in
     let until = c.args.span.now.until in
-    let ready = woken-ready machine u here there until (sleeper c.args.self.now r.waits.word) c.deref.result.now (exists-at s c.args.place r.place) r.order r.early r.holds_inbox.known r.waits.waits
+    let ready = woken-ready machine u here there until (unit_with_word c.args.self.now r.waits.word) c.deref.result.now (exists-at s c.args.place r.place) r.order r.early r.holds_inbox.known r.waits.waits
     (c.deref.ensures.value
     ∙ held-mail machine here there until u c.unit_at-unit.result c.args.traffic.now.links c.take_due_into.new.inbox.items r.holds_inbox c.unit_at-unit.ensures c.in_ok-take_due_into.ensures.ok) in
     let wake = c.arrival_word.result in
@@ -70,7 +70,7 @@ returns-clause-has_run c =
     ∙ c.arrival_word.ensures.first wake (omega arith) in
     record {
       messages = told.onto.messages;
-      has_run = woken-has_run machine u here there until (sleeper c.args.self.now r.waits.word) (record { part = c.run_and_tell.new.part; at = until; wake = wake }) told.onto.messages (exists-at s c.args.place r.place) r.order r.holds_inbox.known r.waits.waits
+      has_run = woken-has_run machine u here there until (unit_with_word c.args.self.now r.waits.word) (record { part = c.run_and_tell.new.part; at = until; wake = wake }) told.onto.messages (exists-at s c.args.place r.place) r.order r.holds_inbox.known r.waits.waits
           told.onto.ran refl
           c.arrival_word.ensures.since
           (silent-sooner s traces until wake c.in_ok-send.send u c.arrival_word.ensures.within told.silent)

@@ -2,7 +2,7 @@
 use Rattle.std.proofs.Common.{None, ap, ◌∙◌}
 use Rattle.sim_base.specs.declared.message.Access.{Access}
 use Rattle.queue.specs.Candidates.{hits, AreFirst, access_number}
-use Rattle.queue.specs.Places.{access_in}
+use Rattle.queue.specs.Words.{access_in}
 use Rattle.queue.proofs.OneBank.{never_hits}
 use Rattle.queue.proofs.Searches.{none_everywhere}
 use Rattle.queue.proofs.Stood.{to_parts, from_parts, row_stand}
@@ -19,5 +19,5 @@ returns-clause-stands c log open_rows stands =
       hit_is = ap (λ h. h.hit) (c.close.ensures.own access) ∙ none_everywhere (hits number access None) log (never_hits number access);
     } in
     from_parts _ log _
-    (row_stand old.rows.items old.places.words.items words log open_rows number None c.requires own (λ other access apart. c.close.ensures.others other access apart) parts)
+    (row_stand old.rows.items old.candidate_words.words.items words log open_rows number None c.requires own (λ other access apart. c.close.ensures.others other access apart) parts)
     stands.counts_are

@@ -8,7 +8,7 @@ use Rattle.queue.specs.declared.request_log.Arrived.{Arrived}
 use Rattle.queue.specs.Log.{waiting_requests}
 use Rattle.queue.specs.Columns.{bank_number}
 use Rattle.queue.specs.Candidates.{access_number, access_number_of}
-use Rattle.queue.specs.Places.{candidate_in}
+use Rattle.queue.specs.Words.{candidate_in}
 use Rattle.queue.proofs.BankCandidatesCounted.{AreCounted, counted_push, number_below}
 use Rattle.queue.proofs.Joined.{may_follow}
 use Rattle.queue.proofs.Stood.{to_parts, from_parts, joined_stand, unjoined_stand, waiting_push}
@@ -38,7 +38,7 @@ returns-then-eligible-clause-stands c older a open_rows long request waits is st
     let number_is : access_number c.bank_number-bank.result c.args.request.now.access ≡ access_number_of r = (λ i. access_number (number i) (request i).access) in
     let exists : own < length rows = subst (λ (x : Request). bank_number x.place < length rows) request c.requires.bank in
     let short : r.place.row < 2 ^ 32 = subst (λ (x : Request). x.place.row < 2 ^ 32) request c.bank_number-bank.ensures.row in
-    let was = old.places.words.items in
+    let was = old.candidate_words.words.items in
     let now = c.join.new.self.words.items in
     let hit = c.is_open-hit.result in
     let hit_is : hit ≡ is_row r.place.row (get_or rows own None) =
@@ -69,5 +69,5 @@ returns-else-eligible-clause-stands c older a open_rows long request waits is st
     let value : c.saturating_add.result ≡ min (get_or old.counts.items c.access_number-number.result 0 + 1) 65535 =
     c.saturating_add.ensures ∙ ap (λ n. min (n + 1) 65535) (c.index.ensures ∙ get_or_default old.counts.items c.access_number-number.result c.index.result.now 0 (omega (arith, counted_access, below))) in
     from_parts _ (older ++ a ∷ []) open_rows
-    (unjoined_stand rows old.places.words.items older a open_rows exists short (follows older a c.args.eligible waits is ∙ c.if-eligible.false) (to_parts old older open_rows stands))
+    (unjoined_stand rows old.candidate_words.words.items older a open_rows exists short (follows older a c.args.eligible waits is ∙ c.if-eligible.false) (to_parts old older open_rows stands))
     (counted_more old.counts.items older a c.access_number-number.result c.saturating_add.result waits counted_access below (omega (arith, long, c.requires.short)) value stands.counts_are)

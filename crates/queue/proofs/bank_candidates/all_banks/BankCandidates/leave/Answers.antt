@@ -9,7 +9,7 @@ use Rattle.queue.specs.Log.{absent, waiting_requests}
 use Rattle.queue.specs.Columns.{bank_number}
 use Rattle.queue.specs.Candidates.{AreFirst, access_number, access_number_of, access_count}
 use Rattle.queue.specs.Served.{AreFirstWith}
-use Rattle.queue.specs.Places.{access_in}
+use Rattle.queue.specs.Words.{access_in}
 use Rattle.queue.proofs.BankCandidatesCounted.{AreCounted, counted_served, number_below}
 use Rattle.queue.proofs.Stood.{to_parts, left_stand}
 use Rattle.queue.proofs.bank_candidates.all_banks.BankCandidates.leave.Goals as goal
@@ -26,7 +26,7 @@ returns-clause-stands c earlier unblocked open_rows served stands =
     let read = (get_or c.log.result.now place absent).request in
     let old = c.args.self.now in
     let rows = old.rows.items in
-    let was = old.places.words.items in
+    let was = old.candidate_words.words.items in
     let now = c.leave.new.self.words.items in
     let own = bank_number r.place in
     let bank = c.bank_number-bank.result in

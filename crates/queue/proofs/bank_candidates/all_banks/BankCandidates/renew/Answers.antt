@@ -6,7 +6,7 @@ use Rattle.sim_base.specs.declared.message.Access.TheVariants as access
 use Rattle.sim_base.specs.declared.message.Access.{Access}
 use Rattle.queue.specs.Log.{waiting_requests}
 use Rattle.queue.specs.Candidates.{AreFirst, access_number}
-use Rattle.queue.specs.Places.{access_in}
+use Rattle.queue.specs.Words.{access_in}
 use Rattle.queue.proofs.BankCandidatesCounted.{AreCounted}
 use Rattle.queue.proofs.OneBank.{number_bank, numbers_apart}
 use Rattle.queue.proofs.Stood.{AreStanding, to_parts, from_parts, renewed_stand, counted_waiting}
@@ -17,7 +17,7 @@ loop-bank-preserved c =
     let log = c.args.log.now.log in
     let number = c.loop-bank.bank in
     let rows = c.loop-bank.self.rows.items in
-    let was = c.loop-bank.self.places.words.items in
+    let was = c.loop-bank.self.candidate_words.words.items in
     let between = c.renew.new.self.words.items in
     let now = c.renew-in-loop-bank.new.self.words.items in
     let row = c.index-row.result.now in
@@ -49,9 +49,9 @@ returns-clause-stands c earlier open_rows log_is stands =
     let log = c.args.log.now.log in
     let old = c.args.self.now in
     let new = c.loop-bank.self in
-    let was = old.places.words.items in
+    let was = old.candidate_words.words.items in
     let parts : AreStanding new.rows.items was earlier open_rows = subst (λ rows. AreStanding rows was earlier open_rows) (sym c.loop-bank.invariant.rows) (to_parts old earlier open_rows stands) in
     from_parts new log open_rows
-    (renewed_stand new.rows.items was new.places.words.items earlier log open_rows log_is
+    (renewed_stand new.rows.items was new.candidate_words.words.items earlier log open_rows log_is
     (λ bank access exists. c.loop-bank.invariant.found bank access (omega (arith, exists, ap length c.loop-bank.invariant.rows, c.len-bank-end.ensures))) parts)
     (subst (λ counts. AreCounted counts (waiting_requests log)) (sym c.loop-bank.invariant.counts) (counted_waiting old.counts.items earlier log log_is stands.counts_are))

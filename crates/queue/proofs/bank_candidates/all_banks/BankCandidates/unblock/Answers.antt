@@ -7,7 +7,7 @@ use Rattle.queue.specs.Log.{absent}
 use Rattle.queue.specs.Columns.{bank_number}
 use Rattle.queue.specs.Candidates.{access_number, access_number_of}
 use Rattle.sim_base.specs.Earlier.{earlier}
-use Rattle.queue.specs.Places.{candidate_in}
+use Rattle.queue.specs.Words.{candidate_in}
 use Rattle.queue.proofs.Stood.{from_parts, unblocked_stand}
 use Rattle.queue.proofs.bank_candidates.all_banks.BankCandidates.unblock.Goals as goal
 
@@ -18,7 +18,7 @@ returns-clause-stands c open_rows stands =
     let r = (get_or log next absent).request in
     let read = (get_or c.log.result.now next absent).request in
     let rows = c.args.self.now.rows.items in
-    let was = c.args.self.now.places.words.items in
+    let was = c.args.self.now.candidate_words.words.items in
     let now = c.unblock.new.self.words.items in
     let own = bank_number r.place in
     let hit = c.is_open-hit.result in

@@ -15,7 +15,7 @@ invariant_of-result c =
     record {
       few = omega (arith, long, c.requires);
       open_are = λ bank. c.none.ensures bank ∙ sym (ap is_some (none_open c.in_ok-closed_rows.field-0.items c.args.banks bank closed));
-      all_places = omega (arith, long, places.room);
+      all_words = omega (arith, long, places.room);
       all_counts = omega (arith, long, counts.len);
     }
 
