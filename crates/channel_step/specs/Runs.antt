@@ -5,6 +5,7 @@
 --     IsListed c command old new      a command was put behind what a list held
 --     steps_on p inbox n      the steps of a past, and of n cycles more
 --     HasIssued c p command ..      what a channel leaves when it has issued a command
+--     IssuesIfNext result c p command ..      a command is issued where it is what the channel does
 --     HasRun c p inbox from now until arrived commands messages      what the cycles of a span up to `now` leave
 --     HasAdvanced c p inbox now then until arrived ..      what one step of the loop leaves
 --     IsDone c s channel steps mail inbox from until ..      what all cycles of a span leave
@@ -13,14 +14,14 @@
 --     ForSpan c inbox from until fact      a fact of each past that a channel may have, and that messages are fit after
 --     CanStep c inbox now      messages are fit for a span that begins with this cycle
 --     StandsAt c from      a channel stands for some past at a cycle
-use Rattle.std.specs.Prelude.{◌≡◌, ℕ, ◌-◌, ◌<◌, ◌≤◌, List, [], ◌∷◌, ◌++◌, length, take, drop, Option, Some, None}
+use Rattle.std.specs.Prelude.{◌≡◌, ℕ, ◌-◌, ◌<◌, ◌≤◌, List, [], ◌∷◌, ◌++◌, length, take, drop, Option, Some, None, Result, OnOk}
 use Rattle.sim_base.specs.declared.config.Config.{Config}
 use Rattle.sim_base.specs.History.{issued_commands, messages_at, channel_messages, issued_now}
 use Rattle.sim_base.specs.Machine.{channel_run}
 use Rattle.sim_base.specs.declared.command.Command.{Command}
 use Rattle.sim_base.specs.declared.command.IssuedCommand.{IssuedCommand}
 use Rattle.sim_base.specs.declared.message.Message.{Message}
-use Rattle.channel_step.specs.Past.{Steps, Past, with_step, commands_after}
+use Rattle.channel_step.specs.Past.{Steps, Past, with_step, commands_after, choice_after}
 use Rattle.channel_step.specs.Fit.{IsFit, IsFitAfter}
 use Rattle.channel_step.specs.Channels.{StandsFor, HasPast, ForPasts}
 use Rattle.channel_step.specs.declared.channel.Channel.{Channel}
@@ -54,6 +55,12 @@ pub record HasIssued (c : Channel) (p : Past) (command : Command) (commands comm
   pub stands : HasPast c (with_step p (Some command))
   pub commands_are : commands_then ≡ with_command commands p.channel (length p.steps) command
   pub messages_are : messages_then ≡ messages ++ messages_at p.config p.channel (length p.steps) (Some command)
+
+-- where a command is what a channel does in the cycle after a past, it has issued it, unless that was refused
+abbrev pub IssuesIfNext : {T E : Type 0} → Result T E → Channel → Past → Command → Option (List IssuedCommand)
+    → Option (List IssuedCommand) → List Message → List Message → Type 0
+IssuesIfNext result c p command commands commands_then messages messages_then =
+    Some command ≡ choice_after p → OnOk result (HasIssued c p command commands commands_then messages messages_then)
 
 -- After the cycles from `from` up to `now` a channel stands for the steps of its run and for the messages that arrived
 -- in them; the other messages are fit for the rest of the span; and these commands and messages are those that were

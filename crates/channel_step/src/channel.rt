@@ -26,7 +26,7 @@ ghost use Rattle.channel_step.specs.Channels.{CountsDrains, seen_with, seen_of, 
 ghost use Rattle.channel_step.specs.Readied.{IsChosen, IsDoing, IsReadied, IsReadiedInSomePast, HasReadied, seen_after};
 ghost use Rattle.channel_step.specs.Readied.{opening_command, closing_command, column_command_at, command_needed, rank_command};
 ghost use Rattle.channel_step.specs.Fit.{IsFitAfter};
-ghost use Rattle.channel_step.specs.Runs.{CanStep, CanRun, ForSpan, HasIssued, HasAdvanced, IsDoneAfter, StandsAt, first_arrival_or, IsListed};
+ghost use Rattle.channel_step.specs.Runs.{CanStep, CanRun, ForSpan, IssuesIfNext, HasAdvanced, IsDoneAfter, StandsAt, first_arrival_or, IsListed};
 
 use crate::arriving::admit;
 use crate::counting::{Seen, draining_of};
@@ -393,9 +393,8 @@ impl Channel {
         requires chosen { IsChosen self.old (Needs.Refresh rank) }
         requires early { self.old.cycle < 2 ^ 62 }
         ensures { ForCycles self.old (λ past. (messages : List Message)
-            → Some (rank_command past rank) ≡ choice_after past
-            → OnOk result (HasIssued self.new past (rank_command past rank)
-            commands.old commands.new messages messages)) }
+            → IssuesIfNext result self.new past (rank_command past rank)
+            commands.old commands.new messages messages) }
     {
         let seen = self.seen(self.refreshing());
         let command = self.ready_rank(rank);
@@ -474,9 +473,8 @@ impl Channel {
         requires seen { seen ≡ seen_of self.old self.old.cycle }
         requires early { self.old.cycle < 2 ^ 62 }
         ensures { ForCycles self.old (λ past.
-            Some (column_command_at self.old place) ≡ choice_after past
-            → OnOk result (HasIssued self.new past (column_command_at self.old place)
-            commands.old commands.new messages.old.items messages.new.items)) }
+            IssuesIfNext result self.new past (column_command_at self.old place)
+            commands.old commands.new messages.old.items messages.new.items) }
     {
         let now = self.cycle;
         let request = self.queue.log().log()[place].request;
@@ -502,11 +500,9 @@ impl Channel {
     ) -> Result<(), AllocError>
         requires chosen { IsChosen self.old (Needs.Request place) }
         requires early { self.old.cycle < 2 ^ 62 }
-        ensures { ForCycles self.old (λ past.
-            Some (command_needed self.old (commands_after past) place) ≡ choice_after past
-            → OnOk result (HasIssued self.new past
+        ensures { ForCycles self.old (λ past. IssuesIfNext result self.new past
             (command_needed self.old (commands_after past) place)
-            commands.old commands.new messages.old.items messages.new.items)) }
+            commands.old commands.new messages.old.items messages.new.items) }
     {
         let seen = self.seen(self.refreshing());
         let asked = self.queue.log().log()[place].request.place;
@@ -535,9 +531,8 @@ impl Channel {
         requires early { self.old.cycle < 2 ^ 62 }
         ensures { ForCycles self.old (λ past. (command : Command)
             → command_of past.config (commands_after past) self.old.queue.log found ≡ Some command
-            → Some command ≡ choice_after past
-            → OnOk result (HasIssued self.new past command
-            commands.old commands.new messages.old.items messages.new.items)) }
+            → IssuesIfNext result self.new past command
+            commands.old commands.new messages.old.items messages.new.items) }
     {
         match found {
             Need::Refresh(rank) => self.refresh_rank(rank, commands),

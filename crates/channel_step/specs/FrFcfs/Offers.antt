@@ -13,6 +13,8 @@
 --     NeedsRow commands bank_candidates bank      a bank whose row these commands open or close
 --     IsBest now hits rows offer      an offer is the first from `now` on
 --     IsBestSoFar room now hits rows offer      an offer is the first from `now` on, or stands for none
+--     StandsForNone room now offer      an offer stands for none, with nothing looked at so far
+--     ForCandidates banks bank_candidates queue accesses fact      a fact of all commands, where these accesses go
 --     TakesRows log now old new more, TakesHits log now old new more      the best offer so far takes in more requests
 --     TakesRowsOf bank_candidates banks asked commands old new      the best offer takes in what some banks need
 --     better_of a b      the one of two offers that goes first
@@ -37,14 +39,15 @@ use Rattle.queue.specs.View.{QueueView}
 use Rattle.queue.specs.declared.bank_candidates.entry.CandidatesOfBank.{CandidatesOfBank}
 use Rattle.queue.specs.declared.bank_candidates.all_banks.BankCandidates.{BankCandidates}
 use Rattle.queue.specs.declared.bank_candidates.sets.BankSet.{BankSet}
-use Rattle.queue.specs.Candidates.{first_place}
+use Rattle.queue.specs.Candidates.{first_place, rows_after}
 use Rattle.sim_base.specs.Earlier.{earlier}
 use Rattle.queue.specs.Sets.{is_in}
-use Rattle.queue.specs.Stands.{candidates_of_bank, row_of_bank}
+use Rattle.queue.specs.Stands.{candidates_of_bank, row_of_bank, StandsFor as CandidatesStandFor}
 use Rattle.channel_step.specs.declared.fr_fcfs.accesses.Accesses.{Accesses}
 use Rattle.channel_step.specs.declared.fr_fcfs.first.RowCommands.{RowCommands}
 use Rattle.channel_step.specs.declared.fr_fcfs.offers.Offer.{Offer}
 use Rattle.channel_step.specs.FrFcfs.Requests.{IsLegalFrom, StandForLog, candidates_of}
+use Rattle.bank_ready.specs.Stands.{StandsFor as BanksStandFor}
 
 -- requests of an access go
 abbrev pub includes : Accesses → Access → Bool
@@ -195,6 +198,10 @@ pub record IsBestSoFar (room now : ℕ) (hits rows : ℕ → Option ℕ) (o : Of
   pub none : room ≤ o.place → o ≡ no_offer room
   pub best : IsBest now hits rows (if_within room o)
 
+-- an offer stands for none: nothing was looked at so far
+abbrev pub StandsForNone : ℕ → ℕ → Offer → Type 0
+StandsForNone room now o = IsBestSoFar room now no_place no_place o
+
 -- The best offer so far takes in further requests for which an ACT or a PRE may be issued, of which the first of each
 -- cycle has this place.
 abbrev pub TakesRows : List Arrived → ℕ → Offer → Offer → (ℕ → Option ℕ) → Type 0
@@ -263,3 +270,12 @@ abbrev pub IsFirstReady : Config → List IssuedCommand → QueueView → ℕ �
 IsFirstReady s history queue now None =
     (cycle : ℕ) → now ≤ cycle → first_ready s history cycle (candidates_of s queue) ≡ None
 IsFirstReady s history queue now (Some o) = IsReadyAt s history queue now o
+
+-- a fact of each configuration and each list of commands that banks and the candidates of a queue stand for, where the
+-- requests that may be served next are those of the accesses that go
+abbrev pub ForCandidates : Banks → BankCandidates → QueueView → Accesses
+    → (Config → List IssuedCommand → Type 0) → Type 0
+ForCandidates banks bank_candidates queue accesses fact =
+    (s : Config) (history : List IssuedCommand) → BanksStandFor banks s history
+    → CandidatesStandFor bank_candidates queue.log (rows_after history)
+    → candidates_of s queue ≡ going accesses queue.log → fact s history

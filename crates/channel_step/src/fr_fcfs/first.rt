@@ -1,18 +1,16 @@
 //! The offer that goes first of all banks.
 
 ghost use Rattle.std.specs.Prelude.{◌≡◌, ◌<◌, ◌*◌, ◌-◌, ◌^◌, ℕ, true, ◌&&◌, List, Option, Some, IsTrue, length, is_some, IfSome};
-ghost use Rattle.sim_base.specs.declared.config.Config.{Config};
-ghost use Rattle.sim_base.specs.declared.command.IssuedCommand.{IssuedCommand};
 ghost use Rattle.bank_ready.specs.Words.{names_bank, is_column_kind};
-ghost use Rattle.bank_ready.specs.Stands.{rank_count, StandsFor as BanksStandFor};
-ghost use Rattle.queue.specs.Candidates.{rows_after};
+ghost use Rattle.bank_ready.specs.Stands.{rank_count};
 ghost use Rattle.sim_base.specs.Earlier.{earlier};
 ghost use Rattle.queue.specs.Sets.{is_in};
-ghost use Rattle.queue.specs.Stands.{bank_count, StandsFor as CandidatesStandFor};
-ghost use Rattle.channel_step.specs.FrFcfs.Requests.{AreInBanks, OfSameBanks, ForLogs, candidates_of};
-ghost use Rattle.channel_step.specs.FrFcfs.Offers.{only, going, column_kind, if_allowed, oldest_of, hit_of, NeedsRow};
+ghost use Rattle.queue.specs.Stands.{bank_count};
+ghost use Rattle.channel_step.specs.FrFcfs.Requests.{AreInBanks, OfSameBanks, ForLogs};
+ghost use Rattle.channel_step.specs.FrFcfs.Offers.{only, column_kind, if_allowed, oldest_of, hit_of, NeedsRow};
 ghost use Rattle.channel_step.specs.FrFcfs.Offers.{hits_in, all_hits, hits_if, row_requests_in, all_row_requests, no_place};
-ghost use Rattle.channel_step.specs.FrFcfs.Offers.{IsBestSoFar, TakesHits, TakesRows, TakesRowsOf, IsFirstReady};
+ghost use Rattle.channel_step.specs.FrFcfs.Offers.{IsBestSoFar, StandsForNone, TakesHits, TakesRows, TakesRowsOf, IsFirstReady};
+ghost use Rattle.channel_step.specs.FrFcfs.Offers.{ForCandidates};
 
 use crate::fr_fcfs::accesses::Accesses;
 use crate::fr_fcfs::offers::{Offer, improve, ready};
@@ -323,8 +321,7 @@ fn with_banks(
 )
     requires { OfSameBanks bank_candidates.now banks.now }
     ensures { ForLogs banks.now bank_candidates.now (λ s history log.
-        IsBestSoFar (length log) now no_place no_place best.old
-        → IsBestSoFar (length log) now
+        StandsForNone (length log) now best.old → IsBestSoFar (length log) now
         (all_hits s history log accesses) (all_row_requests s history log accesses) best.new) }
 {
     with_rows(best, bank_candidates, accesses, banks, now);
@@ -353,11 +350,8 @@ pub(crate) fn first_of(
     requires banks { OfSameBanks bank_candidates.now banks.now }
     ensures within { IfSome result (λ o. o.place < length queue.now.log) }
     ensures short { IfSome result (λ o. o.place < 2 ^ 16 - 1) }
-    ensures first { (s : Config) (history : List IssuedCommand)
-        → BanksStandFor banks.now s history
-        → CandidatesStandFor bank_candidates.now queue.now.log (rows_after history)
-        → candidates_of s queue.now ≡ going accesses queue.now.log
-        → IsFirstReady s history queue.now now result }
+    ensures first { ForCandidates banks.now bank_candidates.now queue.now accesses (λ s history.
+        IsFirstReady s history queue.now now result) }
 {
     let room = queue.log().len();
     let mut best = Offer {
