@@ -1,7 +1,7 @@
 //! The messages in flight.
 
-ghost use Rattle.std.specs.Prelude.{◌≡◌, ◌+◌, ◌<◌, ◌^◌, ◌≤◌, [], ◌∷◌, length, fold, ◌==◌, true, false, ◌↔◌, IsTrue, IsNone, IfSome, IfOk, OnOk, OnErr, IsOkAnd};
-ghost use Rattle.std.specs.List.{list_all};
+ghost use Rattle.std.specs.Prelude.{◌≡◌, ◌+◌, ◌<◌, ◌^◌, ◌≤◌, nat_lt, [], ◌∷◌, length, fold, ◌==◌, true, false, ◌↔◌, IsTrue, IsNone, IfSome, IfOk, OnOk, OnErr, IsOkAnd};
+ghost use Rattle.std.specs.List.{list_all, list_any};
 ghost use Rattle.std.specs.List.Sorted.{IsPermutation};
 ghost use Rattle.links.specs.InFlight.{nothing_in_flight, with_sent, due_before, without_due, in_flight_to, first_arrival, NoneArrivesBefore, SomeAt};
 ghost use Rattle.links.specs.Rings.{ring_of, ring_if_any, contents, ring_messages, ring_messages_at, IsByAge, earlier_arrival, due_in, due_in_both, left_in, left_both, AreRings, HasRoom, HaveRoomForAll, AreNumbers, HasRingNumbers, AreCounts, IsOneMore, HaveCountedRoom, CanTakeUp, HoldSame, HaveGained, JoinAlike, Grows};
@@ -14,9 +14,9 @@ use sim_base::message::{Cycle, LinkId, Message, Unit, earlier};
 use std::alloc::{AllocError, Global};
 use std::marker::Model;
 
-/// Up to this many messages are put into their rings one after the other; more are worth a sort, and a count of those
-/// that go to each ring.
-pub const FEW_MESSAGES: usize = 64;
+/// Up to this many messages are put into a ring in the order in which they come; more are worth a sort, since each goes
+/// before those of them that arrive later. Where there are more in all, those that go to each ring are counted.
+const FEW_MESSAGES: usize = 64;
 
 /// The numbers of the rings are kept for at most this many links.
 const MOST_NUMBERS: u64 = 16_384;
@@ -308,14 +308,46 @@ fn sort_by_arrival(alloc: Global, messages: &mut [Message]) -> Result<(), AllocE
     messages.sort_by_key(alloc, |message| message.arrival)
 }
 
-/// Sorts messages by arrival where they are many.
+/// Whether more than a few messages go to some ring.
+fn is_any_busy(counts: &[usize]) -> bool
+    ensures { result ≡ list_any (nat_lt FEW_MESSAGES) counts.now }
+{
+    counts.iter().any(|count| *count > FEW_MESSAGES)
+}
+
+/// Sorts messages by arrival where more than a few of them go to one ring.
+#[inline(never)]
+fn sort_if_many(
+    alloc: Global,
+    numbers: &[usize],
+    channels: u16,
+    messages: &mut [Message],
+) -> Result<(), AllocError>
+    requires { HasRingNumbers channels numbers.now }
+    ensures same { IsPermutation messages.old messages.new }
+    ensures puts { JoinAlike messages.old messages.new }
+{
+    let counts = count_by_ring(alloc, numbers, channels, messages)?;
+    if is_any_busy(&counts) {
+        sort_by_arrival(alloc, messages)?;
+    }
+    Ok(())
+}
+
+/// Puts messages in the order in which they are to be put into the rings.
 #[inline(always)]
-fn sort_if_many(alloc: Global, messages: &mut [Message]) -> Result<(), AllocError>
+fn put_in_order(
+    alloc: Global,
+    numbers: &[usize],
+    channels: u16,
+    messages: &mut [Message],
+) -> Result<(), AllocError>
+    requires { HasRingNumbers channels numbers.now }
     ensures same { IsPermutation messages.old messages.new }
     ensures puts { JoinAlike messages.old messages.new }
 {
     if messages.len() > FEW_MESSAGES {
-        sort_by_arrival(alloc, messages)?;
+        sort_if_many(alloc, numbers, channels, messages)?;
     }
     Ok(())
 }
@@ -337,7 +369,7 @@ fn take_up(
     ensures ok { OnOk result (HaveGained rings.old.items rings.new.items messages.old) }
     ensures err { OnErr result (HoldSame rings.old.items rings.new.items) }
 {
-    sort_if_many(alloc, messages)?;
+    put_in_order(alloc, numbers, channels, messages)?;
     make_room_for(alloc, rings, numbers, channels, messages)?;
     put_all(rings, numbers, channels, messages);
     Ok(())
@@ -491,6 +523,16 @@ impl Links {
             self.channels,
             messages,
         )
+    }
+
+    /// Puts messages in the order in which they are best taken up one after the other: by arrival, where one ring takes
+    /// more than a few of them. Those that arrive together stay in order, so they are taken up to the same effect.
+    #[inline(always)]
+    pub fn put_in_order(&self, messages: &mut [Message]) -> Result<(), AllocError>
+        ensures same { IsPermutation messages.old messages.new }
+        ensures alike { JoinAlike messages.old messages.new }
+    {
+        put_in_order(self.alloc, &self.numbers, self.channels, messages)
     }
 
     /// Takes a message up, and gives the number of its ring, which tells the unit that it goes to. Where memory is

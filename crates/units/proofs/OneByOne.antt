@@ -1,9 +1,11 @@
--- Messages that are taken up one after the other, and words that are lowered to them.
+-- Messages that are taken up one after the other, in any order, and words that are lowered to them.
 use Rattle.std.proofs.Common.{◌≡◌, ℕ, ◌+◌, ◌<◌, ◌≤◌, true, List, [], ◌∷◌, length, get_or, take, ◌⊎◌, inl, inr, sym, ap, subst, ◌∙◌, arith}
 use Rattle.std.specs.Prelude.{Some, None, Option, All, IfSome, IfNone}
 use Rattle.std.proofs.lemmas.Bool.{cases_lt}
 use Rattle.std.proofs.lemmas.List.Sums.{fold_more}
 use Rattle.std.proofs.lemmas.List.{get_or-take, get_or_default, length-take-le}
+use Rattle.std.proofs.lemmas.List.Sorted.{All-permutation, IsPermutation-sym}
+use Rattle.std.specs.List.Sorted.{IsPermutation}
 use Rattle.sim_base.specs.declared.config.Config.{Config}
 use Rattle.sim_base.specs.declared.message.Message.{Message}
 use Rattle.sim_base.specs.History.{insert_by_age}
@@ -79,6 +81,16 @@ lowered-next s first n d sent place old mid new within less p q = record {
         subst (λ (x : Message). get_or new k 0 ≤ x.arrival) (sym at)
         (reaches s first (get_or sent n d) place mid new (omega (arith, within, p.count)) q k (still k l)
         (subst (λ (x : Message). goes_to_place s x (first + k) ≡ true) at to))
+
+-- words that are lowered to some messages are lowered to them in any order
+pub lowered-permuted : (s : Config) (first : ℕ) (sent other : List Message) (old new : List ℕ) → IsPermutation sent other → AreLowered s first sent old new → AreLowered s first other old new
+lowered-permuted s first sent other old new same h = record {
+  count = h.count;
+  less = h.less;
+  arrivals = λ k j d less at to.
+      All-permutation (λ (m : Message). goes_to_place s m (first + k) ≡ true → get_or new k 0 ≤ m.arrival) sent other same (λ i e l. h.arrivals k i e less l) j d at to;
+  since = λ cycle all. h.since cycle (All-permutation (λ (m : Message). cycle ≤ m.arrival) other sent (IsPermutation-sym sent other same) all);
+}
 
 -- what is in flight when some messages are sent, and then the next, is what is when one more is
 pub sent-next : (links now new : InFlight) (n : ℕ) (d : Message) (sent : List Message) → n < length sent → now ≡ with_sent links (take n sent) → new ≡ with_sent now (get_or sent n d ∷ [])

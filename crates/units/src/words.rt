@@ -9,7 +9,7 @@ ghost use Rattle.units.specs.GoingOn.{IsReceiver, HasNoReceiver};
 ghost use Rattle.units.specs.Wakes.{AreLowered, NoneIsLater, IsNoLaterAt, IsNoneSooner};
 
 use core_window::receive::channel_of;
-use links::flight::{FEW_MESSAGES, Links};
+use links::flight::Links;
 use sim_base::config::Config;
 use sim_base::message::{Cycle, LinkId, Message};
 use std::alloc::AllocError;
@@ -90,20 +90,8 @@ fn lower(first: usize, words: &mut [Cycle], place: Option<usize>, arrival: Cycle
     }
 }
 
-/// Lowers the words of units at places from `first` on to the arrivals of what was sent to them.
-fn lower_all(config: &Config, first: usize, words: &mut [Cycle], sent: &[Message])
-    requires { first + length words.old ≤ unit_count config.now }
-    ensures { AreLowered config.now first sent.now words.old words.new }
-{
-    let bits = channel_bits(config);
-    for message in sent {
-        let place = place_at(config, bits, message.link);
-        lower(first, words, place, message.arrival);
-    }
-}
-
 /// Takes messages up one after the other, and lowers the word of the unit that each goes to.
-fn take_up_few(
+fn take_up_each(
     config: &Config,
     links: &mut Links,
     first: usize,
@@ -123,8 +111,7 @@ fn take_up_few(
 }
 
 /// Takes up what was sent, which may change places, and lowers the words of units at places from `first` on to the
-/// arrivals of what was sent to them. A few messages take one pass; many are sorted before the links take them up. The
-/// only error is out of memory, and some messages may be taken up by then.
+/// arrivals of what was sent to them. The only error is out of memory, and some messages may be taken up by then.
 #[inline(always)]
 pub fn take_up(
     config: &Config,
@@ -139,10 +126,6 @@ pub fn take_up(
     ensures lowered { OnOk result (AreLowered config.now first sent.old words.old words.new) }
     ensures links { OnOk result (links.new ≡ with_sent links.old sent.old) }
 {
-    if sent.len() > FEW_MESSAGES {
-        lower_all(config, first, words, sent);
-        links.accept(sent)
-    } else {
-        take_up_few(config, links, first, words, sent)
-    }
+    links.put_in_order(sent)?;
+    take_up_each(config, links, first, words, sent)
 }

@@ -11,11 +11,11 @@ put_all-requires-clause-rings c = c.in_ok-make_room_for.ensures.grows.rings c.ar
 pub put_all-requires-clause-room : goal.put_all-requires-clause-room
 put_all-requires-clause-room c = c.in_ok-make_room_for.ensures.room
 
-pub returns-in_err-sort_if_many-clause-same : goal.returns-in_err-sort_if_many-clause-same
-returns-in_err-sort_if_many-clause-same c = c.sort_if_many.ensures.same
+pub returns-in_err-put_in_order-clause-same : goal.returns-in_err-put_in_order-clause-same
+returns-in_err-put_in_order-clause-same c = c.put_in_order.ensures.same
 
-pub returns-in_err-sort_if_many-clause-err : goal.returns-in_err-sort_if_many-clause-err
-returns-in_err-sort_if_many-clause-err c = on_err _ _ refl
+pub returns-in_err-put_in_order-clause-err : goal.returns-in_err-put_in_order-clause-err
+returns-in_err-put_in_order-clause-err c = on_err _ _ refl
 
 pub returns-in_err-make_room_for-clause-rings : goal.returns-in_err-make_room_for-clause-rings
 returns-in_err-make_room_for-clause-rings c = c.make_room_for.ensures.grows.rings c.args.channels 0 c.requires.rings
@@ -26,8 +26,8 @@ returns-in_err-make_room_for-clause-err c = on_err _ _ c.make_room_for.ensures.g
 pub returns-clause-ok : goal.returns-clause-ok
 returns-clause-ok c =
     c.put_all.ensures.messages
-    ∙ ap (λ ms. fold insert_by_age (by_age ms) c.sort_if_many.new.messages) c.in_ok-make_room_for.ensures.grows.messages
-    ∙ c.sort_if_many.ensures.puts (ring_messages c.args.rings.now.items)
+    ∙ ap (λ ms. fold insert_by_age (by_age ms) c.put_in_order.new.messages) c.in_ok-make_room_for.ensures.grows.messages
+    ∙ c.put_in_order.ensures.puts (ring_messages c.args.rings.now.items)
 
 pub returns-clause-same : goal.returns-clause-same
-returns-clause-same c = c.sort_if_many.ensures.same
+returns-clause-same c = c.put_in_order.ensures.same

@@ -1,7 +1,7 @@
 use Rattle.std.proofs.Common.{◌<◌, length, ap, arith}
 use Rattle.links.specs.InFlight.{InFlight}
 use Rattle.units.proofs.OneByOne.{lowered-next, ring-same, sent-next}
-use Rattle.units.proofs.words.take_up_few.Goals as goal
+use Rattle.units.proofs.words.take_up_each.Goals as goal
 
 pub loop-message-preserved : goal.loop-message-preserved
 loop-message-preserved c =

@@ -2,7 +2,7 @@
 use Rattle.std.proofs.Common.{◌≡◌, take}
 use Rattle.links.specs.InFlight.{with_sent}
 use Rattle.units.specs.Wakes.{AreLowered}
-use Rattle.units.proofs.words.take_up_few.Given as goal
+use Rattle.units.proofs.words.take_up_each.Given as goal
 
 abbrev pub invariant-loop-message : goal.invariant-loop-message
 invariant-loop-message l = record {
