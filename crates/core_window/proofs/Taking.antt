@@ -1,12 +1,13 @@
 -- A Read is taken out of those that wait, which are in the order of their numbers.
 use Rattle.std.proofs.Common.{get_or, set, ◌≡◌, ℕ, ◌+◌, ◌<◌, Bool, true, false, cond, not, eqb, List, [], ◌∷◌, ◌++◌, length, drop, Some, None, refl, sym, ap, ap₂, subst, ◌∙◌, arith, append_assoc}
-use Rattle.std.specs.Prelude.{filter, find}
-use Rattle.std.specs.List.{AllByRecursion as Each}
-use Rattle.std.proofs.Math.Seq.{get_or-append_seam, set-append_seam}
+use Rattle.std.specs.Prelude.{filter, find, ◌-◌, ◌≤◌, take}
+use Rattle.std.specs.List.{AllByRecursion as Each, copy_within}
+use Rattle.std.proofs.Math.Seq.{drop-append_seam, get_or-append_seam, set-append_seam}
 use Rattle.std.proofs.lemmas.Bool.{ne_eqb, eq-eqb, eqb-true}
-use Rattle.std.proofs.lemmas.List.{append-nil, drop-append-le, length-append}
+use Rattle.std.proofs.lemmas.List.{append-nil, drop-append-le, drop-set-add, length-append, length-drop, length-take-le, set-append_right}
+use Rattle.std.proofs.lemmas.List.Edits.{paste_all}
 use Rattle.sim_base.proofs.Ordered.{Each-weaker}
-use Rattle.core_window.specs.Counting.{read_of, without_read, IsTakenOut}
+use Rattle.core_window.specs.Counting.{read_of, without_read}
 use Rattle.core_window.specs.Outstanding.{IsByNumber}
 use Rattle.core_window.specs.declared.outstanding.OutstandingRead.{OutstandingRead}
 
@@ -69,15 +70,42 @@ carrying-more entry old first places place held d h l other =
 
 -- the one at hand is the one that was looked for
 pub carrying-last : (entry : ℕ) (old : List OutstandingRead) (first : ℕ) (places : List OutstandingRead) (place : ℕ) (held : OutstandingRead)
-    → IsCarrying entry old first places place held → held.entry ≡ entry → IsTakenOut entry old (Some held) (drop (first + 1) places)
-carrying-last entry old first places place held h same read is =
+    → IsCarrying entry old first places place held → held.entry ≡ entry → drop (first + 1) places ≡ without_read entry old
+carrying-last entry old first places place held h same =
     let it : eqb held.entry entry ≡ true = eq-eqb held.entry entry same in
     let larger : Each (λ (r : OutstandingRead). entry < r.entry) h.back = Each-weaker (λ (r : OutstandingRead). held.entry < r.entry) (λ r. entry < r.entry) (λ r k. omega arith) h.back h.order.0 in
-    let rest : without_read entry (held ∷ h.back) ≡ h.back = ap (λ b. cond (not b) (held ∷ without_read entry h.back) (without_read entry h.back)) it ∙ all_others entry h.back larger in (
-      sym (h.found ∙ ap (λ b. cond b (Some held) (read_of entry h.back)) it) ∙ is,
-      ap (drop (first + 1)) h.all ∙ drop-append-le (first + 1) h.front h.back (omega (arith, h.inside))
-          ∙ sym (h.others ∙ ap (λ l. drop (first + 1) h.front ++ l) rest),
-    )
+    let rest : without_read entry (held ∷ h.back) ≡ h.back = ap (λ b. cond (not b) (held ∷ without_read entry h.back) (without_read entry h.back)) it ∙ all_others entry h.back larger in
+    ap (drop (first + 1)) h.all ∙ drop-append-le (first + 1) h.front h.back (omega (arith, h.inside))
+    ∙ sym (h.others ∙ ap (λ l. drop (first + 1) h.front ++ l) rest)
+
+-- what stands in a single place
+one-set : (l : List OutstandingRead) (x : OutstandingRead) → length l ≡ 1 → set l 0 x ≡ x ∷ []
+one-set [] x h = absurd (omega (arith, h))
+one-set (y ∷ []) x h = refl
+one-set (y ∷ z ∷ l) x h = absurd (omega (arith, h))
+
+-- all from a place on move up by one, and the last place takes another
+pub moved-down : (places : List OutstandingRead) (first : ℕ) (last : OutstandingRead) → first < length places
+    → drop first (set (copy_within places (first + 1) (length places) first) (length places - 1) last) ≡ drop (first + 1) places ++ last ∷ []
+moved-down places first last inside =
+    let len = length places in
+    let moved = drop (first + 1) places in
+    let i = len - 1 - first in
+    let long : length moved ≡ i = length-drop (first + 1) places ∙ omega (arith, inside) in
+    let end : List OutstandingRead = drop (first + (len - (first + 1))) places in
+    let one : length end ≡ 1 = length-drop (first + (len - (first + 1))) places ∙ omega (arith, inside) in
+    let front : length (take first places) ≡ first = length-take-le first places (omega (arith, inside)) in
+    let pasted : copy_within places (first + 1) len first ≡ take first places ++ (moved ++ end) = paste_all places first moved (len - (first + 1)) (omega (arith, long, inside)) in
+    let rest : drop first (copy_within places (first + 1) len first) ≡ moved ++ end =
+    ap (drop first) pasted ∙ sym (ap (λ n. drop n (take first places ++ (moved ++ end))) front) ∙ drop-append_seam (take first places) (moved ++ end) in
+    let at : len - 1 ≡ first + i = omega (arith, inside) in
+    let none : i - i ≡ 0 = omega arith in
+    ap (λ n. drop first (set (copy_within places (first + 1) len first) n last)) at
+    ∙ drop-set-add first (copy_within places (first + 1) len first) i last
+    ∙ ap (λ l. set l i last) rest
+    ∙ set-append_right moved end i i last long (omega arith)
+    ∙ ap (λ n. moved ++ set end n last) none
+    ∙ ap (λ l. moved ++ l) (one-set end last one)
 
 -- the Read that is found has the number
 pub found-own : (e : ℕ) (reads : List OutstandingRead) (read : OutstandingRead) → find (is_it e) reads ≡ Some read → read.entry ≡ e

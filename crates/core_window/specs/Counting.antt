@@ -5,7 +5,7 @@
 --     SendsFor memory s core now before after      the request of the entry that issues is put behind what was sent
 --     read_of entry outstanding      the Read of a number among those that wait
 --     without_read entry outstanding      the Reads that wait, without the one of a number
---     IsTakenOut entry old taken new      the Read of a number is taken out of those that wait
+--     IsTakenOut entry old taken new      the Read of a number is taken out of those that wait, if it is there
 --     HasRoom access credits      one credit more of this kind can be counted
 --     IsCreditedAt channel access old new      one credit more is held for one channel, and for the others what was
 --     IsSpentAt channel access old new      one credit less is held for one channel, and for the others what was
@@ -50,11 +50,9 @@ read_of entry outstanding = find (λ read. read.entry == entry) outstanding
 abbrev pub without_read : ℕ → List OutstandingRead → List OutstandingRead
 without_read entry outstanding = filter (λ read. not (read.entry == entry)) outstanding
 
--- The Read of a number that is among those that wait is taken out of them: the others still wait. Where it is not among
--- them, nothing is said.
+-- The Read of a number is taken out of those that wait, if it is among them: the others still wait.
 abbrev pub IsTakenOut : ℕ → List OutstandingRead → Option OutstandingRead → List OutstandingRead → Type 0
-IsTakenOut entry old taken new =
-    (read : OutstandingRead) → read_of entry old ≡ Some read → (taken ≡ Some read) × (new ≡ without_read entry old)
+IsTakenOut entry old taken new = (taken ≡ read_of entry old) × (new ≡ without_read entry old)
 
 -- statistics with one reply more, which was waited for over `waited` cycles
 abbrev pub counted_reply : CoreStats → ℕ → CoreStats

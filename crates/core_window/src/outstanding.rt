@@ -1,8 +1,8 @@
 //! Reads that wait for their reply.
 
-ghost use Rattle.std.specs.Prelude.{[], ◌≡◌, ◌+◌, ◌∷◌, ◌++◌, ◌≤◌, ◌<◌, drop, length, IfOk, OnOk};
+ghost use Rattle.std.specs.Prelude.{[], ◌≡◌, ◌+◌, ◌∷◌, ◌++◌, ◌≤◌, ◌<◌, drop, length, IfOk, OnOk, IfSome, IsNone};
 ghost use Rattle.core_window.specs.Outstanding.{IsByNumber};
-ghost use Rattle.core_window.specs.Counting.{IsTakenOut};
+ghost use Rattle.core_window.specs.Counting.{read_of, without_read, IsTakenOut};
 
 use sim_base::message::Cycle;
 use std::alloc::{AllocError, Global};
@@ -25,17 +25,34 @@ pub struct OutstandingReads {
     ghost within: { free ≤ length places.items },
 }
 
-/// Takes the Read with this number out of those from a place on: each Read before it moves up by a place, and the first
-/// place becomes free.
+/// Puts the last of the Reads back, where each of those from a place on was moved up by a place.
+#[cold]
+#[inline(never)]
+fn put_back(places: &mut [OutstandingRead], first: usize, last: OutstandingRead)
+    requires { first < length places.old }
+    ensures { drop first places.new ≡ drop (first + 1) places.old ++ last ∷ [] }
+{
+    let len = places.len();
+    places.copy_within(first + 1..len, first);
+    places[len - 1] = last;
+}
+
+/// Takes the Read with this number out of those from a place on, if it is there: each Read before it moves up by a
+/// place, and the first place becomes free. If it is not there, they stay as they were.
 fn take_from(places: &mut [OutstandingRead], first: usize, entry: u64) -> Option<OutstandingRead>
     requires inside { first < length places.old }
     requires order { IsByNumber (drop first places.old) }
-    ensures { IsTakenOut entry (drop first places.old) result (drop (first + 1) places.new) }
+    ensures taken { result ≡ read_of entry (drop first places.old) }
+    ensures some { IfSome result (λ _.
+        drop (first + 1) places.new ≡ without_read entry (drop first places.old)) }
+    ensures none { IsNone result
+        → drop first places.new ≡ without_read entry (drop first places.old) }
 {
     let mut held = places[first];
     let mut place = first + 1;
     'search: while held.entry != entry {
         if place == places.len() {
+            put_back(places, first, held);
             return None;
         }
         let next = places[place];
@@ -90,7 +107,7 @@ impl OutstandingReads {
         Ok(())
     }
 
-    /// Takes out the Read with this number, which waits.
+    /// Takes out the Read with this number, if it waits.
     #[inline(always)]
     pub fn take(&mut self, entry: u64) -> Option<OutstandingRead>
         requires { IsByNumber (waiting self.old) }
@@ -100,8 +117,8 @@ impl OutstandingReads {
         if first == self.places.len() {
             return None;
         }
-        let read = take_from(&mut self.places, first, entry);
+        let read = take_from(&mut self.places, first, entry)?;
         self.free = first + 1;
-        read
+        Some(read)
     }
 }

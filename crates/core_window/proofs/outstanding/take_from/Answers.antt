@@ -13,7 +13,7 @@ search-preserved c =
       len = length-set c.search.places c.search.place c.search.held ∙ c.search.invariant.len;
     }
 
-pub returns : goal.returns
-returns c =
+pub returns-clause-some : goal.returns-clause-some
+returns-clause-some c =
     carrying-last c.args.entry (drop c.args.first c.args.places.now) c.args.first c.search.places c.search.place c.search.held c.search.invariant.carries
     (omega (arith, c.search-test.false))

@@ -11,8 +11,8 @@ use Rattle.core_window.proofs.core_unit.Core.receive_reply.Goals as goal
 pub returns-in-Some : goal.returns-in-Some
 returns-in-Some c read e =
     let v = view_of c.args.self.now in
-    let out = c.take.ensures read e in
-    let found : Some c.in-Some.read ≡ Some read = sym c.in-Some.is ∙ out.0 in
+    let out = c.take.ensures in
+    let found : Some c.in-Some.read ≡ Some read = sym c.in-Some.is ∙ out.0 ∙ e in
     let same : c.in-Some.read ≡ read = some_same c.in-Some.read read found in
     let own : c.args.entry ≡ read.entry = sym (found-own c.args.entry v.outstanding read e) in
     let with : List OutstandingRead → CoreStats → CoreView = λ ws st. record v { outstanding = ws; stats = st } in
@@ -24,4 +24,4 @@ returns-in-Some c read e =
     some_same a b h = cc
 
 pub returns-in_default : goal.returns-in_default
-returns-in_default c read e = absurd (c.in_default.not-Some read (c.take.ensures read e).0)
+returns-in_default c read e = absurd (c.in_default.not-Some read (c.take.ensures.0 ∙ e))
