@@ -1,15 +1,28 @@
 -- The oldest request of a bank and an access asks for a row, or the first that does stands behind it.
-use Rattle.std.proofs.Common.{◌≡◌, ℕ, ◌+◌, ◌<◌, Bool, true, false, ◌&&◌, eqb, List, length, get_or, Some, refl, sym, ap, ◌∙◌}
+use Rattle.std.proofs.Common.{◌≡◌, ℕ, ◌+◌, ◌<◌, Bool, true, false, ◌&&◌, eqb, List, length, get_or, Some, refl, sym, ap, ◌∙◌, arith}
+use Rattle.std.proofs.lemmas.Bool.{and_parts}
 use Rattle.std.proofs.lemmas.List.{get_or_default}
 use Rattle.std.proofs.lemmas.List.Quantifiers.{position-Some}
 use Rattle.sim_base.specs.declared.message.Access.{Access}
+use Rattle.sim_base.specs.declared.message.Request.{Request}
 use Rattle.queue.specs.declared.request_log.Arrived.{Arrived}
 use Rattle.queue.specs.Marks.{is_marked}
 use Rattle.queue.specs.Log.{absent, eligible_column}
 use Rattle.queue.specs.Candidates.{asks, wants, passes, marked_requests, first_place}
 use Rattle.queue.specs.Moves.{NonePassesBefore}
+use Rattle.queue.proofs.MarkedRequests.{length-marked_requests}
 use Rattle.queue.proofs.Searches.{here_is, none_more, none_narrower, none_before_first, found_here}
 use Rattle.queue.proofs.OneBank.{wants_narrower}
+
+-- the first request that passes a test is in the log, and passes it
+pub first_asks : (test : Request → Bool) (log : List Arrived) (place : ℕ) → Some place ≡ first_place test log → (place < length log) × (test (get_or log place absent).request ≡ true)
+first_asks test log place is =
+    let d : Request × ℕ = (absent.request, 0) in
+    let found = position-Some (passes test) (marked_requests log) place d (sym is) in
+    let within : place < length log = omega (arith, found.0, length-marked_requests log) in (
+      within,
+      (and_parts (is_marked (get_or (eligible_column log) place 0)) (test (get_or log place absent).request) (sym (here_is test log place absent d within) ∙ found.1)).1,
+    )
 
 -- the row of a request that was read
 pub row_at : (log xs : List Arrived) (place : ℕ) (e f : Arrived) (row : ℕ) → place < length log → xs ≡ log → eqb (get_or log place f).request.place.row row ≡ eqb (get_or xs place e).request.place.row row

@@ -1,5 +1,6 @@
 -- What the candidates of a log stand for.
 --     asks bank access r      a request asks to write to a bank, or to read from it
+--     asks_at bank access log place      the request at a place asks to write to a bank, or to read from it
 --     hits bank access row r      a request asks for a bank and an access, and for the row that is open in the bank
 --     wants bank access row r      a request asks for a bank and an access, and for this row if one is given
 --     RowsFit requests      each request asks for a row whose number has 32 bits
@@ -30,6 +31,10 @@ use Rattle.sim_base.specs.Places.{bank_at}
 -- a request asks to write to a bank, or to read from it
 abbrev pub asks : ℕ → Access → Request → Bool
 asks bank access r = (bank_number r.place == bank) && is_access access r.access
+
+-- the request at a place asks to write to a bank, or to read from it
+abbrev pub asks_at : ℕ → Access → List Arrived → ℕ → Bool
+asks_at bank access log place = asks bank access (slice_index_or log place absent).request
 
 -- a request asks to write to a bank, or to read from it, and for the row that is open there
 abbrev pub hits : ℕ → Access → Option ℕ → Request → Bool

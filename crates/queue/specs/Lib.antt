@@ -3,6 +3,7 @@ pub mod Kept
 pub mod Marks
 pub mod Log
 pub mod Columns
+pub mod Chains
 pub mod Lines
 pub mod RequestLogKept
 pub mod Candidates

@@ -6,6 +6,7 @@
 --     candidate_for candidates departure hit      a candidate of the bank and access of a departure
 --     candidates_for candidates departure      both candidates of the bank and access of a departure
 --     wants_like departure row      a request is of the departure's bank and access, and asks for a row if one is given
+--     is_asked_like log departure      the request at the place of a departure is of its bank and access
 --     HasDeparted old new log departure row      the request that was served is no longer among the candidates
 use Rattle.std.specs.Prelude.{◌≡◌, ℕ, ◌<◌, Bool, true, List, length, slice_index_or, Option, Some, None, IfSome, if◌then◌else◌}
 use Rattle.sim_base.specs.declared.message.Access.{Access}
@@ -15,7 +16,7 @@ use Rattle.queue.specs.Log.{absent, served_at, waits_at, eligible_column, marks_
 use Rattle.queue.specs.declared.bank_candidates.entry.AccessCandidates.{AccessCandidates}
 use Rattle.queue.specs.declared.bank_candidates.candidate_words.Departure.{Departure}
 use Rattle.queue.specs.declared.bank_candidates.candidate_words.CandidateWords.{CandidateWords}
-use Rattle.queue.specs.Candidates.{asks, hits, wants, first_place, AreFirst, NoneWaits}
+use Rattle.queue.specs.Candidates.{asks, asks_at, hits, wants, first_place, AreFirst, NoneWaits}
 use Rattle.queue.specs.Changes.{candidate_at, candidates_at}
 use Rattle.sim_base.specs.Earlier.{earlier}
 
@@ -58,6 +59,10 @@ candidates_for candidates departure = candidates_at candidates departure.bank de
 -- a request is of the bank and the access of the one that was served, and asks for a row if one is given
 abbrev pub wants_like : Departure → Option ℕ → Request → Bool
 wants_like departure row = wants departure.bank departure.access row
+
+-- the request at the place of a departure is of its bank and access
+abbrev pub is_asked_like : List Arrived → Departure → Bool
+is_asked_like log departure = asks_at departure.bank departure.access log departure.place
 
 -- A request has been served, after which the log is this one, and it is no longer among the candidates of its bank and
 -- access, where this row is open: if they were the first ones of the log before, they are the first ones of this log,

@@ -6,7 +6,7 @@ pub mod bank_candidates;
 pub mod request_log;
 
 ghost use Rattle.std.specs.Prelude.{◌≡◌, ◌+◌, ◌-◌, ◌^◌, ◌<◌, ◌≤◌, true, false, IfOk, length};
-ghost use Rattle.queue.specs.View.{drains_by, is_draining, places_for, empty_queue, with_request, renumbered};
+ghost use Rattle.queue.specs.View.{drains_by, is_draining, empty_queue, with_request, renumbered};
 
 use crate::request_log::RequestLog;
 use sim_base::message::{Access, Request};
@@ -28,13 +28,6 @@ fn drains(high: u32, low: u32, drain_decided: bool, writes: usize) -> bool
     let high = high as usize;
     let low = low as usize;
     (0 < high && high <= writes) || (drain_decided && low < writes)
-}
-
-/// How many requests there are places for, where `room` of them may wait.
-fn places_for(room: usize) -> usize
-    ensures { result ≡ places_for room }
-{
-    room.saturating_mul(2).saturating_add(256).min(MOST_PLACES)
 }
 
 /// The requests that wait in a channel, by age.
@@ -78,6 +71,7 @@ impl Queue {
         requires room { room < 2 ^ 16 - 1 }
         ensures { IfOk result (λ queue. queue ≡ empty_queue room high low) }
     {
+        let places = room.saturating_mul(2).saturating_add(256).min(MOST_PLACES);
         Ok(Queue {
             room,
             high,
@@ -86,7 +80,7 @@ impl Queue {
             drains: false,
             waiting_count: 0,
             writes: 0,
-            log: RequestLog::with_places(alloc, places_for(room), room)?,
+            log: RequestLog::with_places(alloc, places, room)?,
         })
     }
 

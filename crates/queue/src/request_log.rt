@@ -1,12 +1,14 @@
 //! The requests that have arrived at a channel, by age, each at a place that it keeps until the requests that wait are
 //! moved to the front.
 
+pub(crate) mod chains;
 mod lines;
 pub mod words;
 
 ghost use Rattle.std.specs.Prelude.{◌≡◌, ◌^◌, ◌+◌, ◌-◌, ◌<◌, ◌≤◌, length, slice_set, vec_capacity};
 ghost use Rattle.queue.specs.Columns.{bank_number, tag_word, counter_of_row, waiting_items};
 
+use crate::request_log::chains::{Chains, class_of};
 use crate::request_log::lines::{counters, is_for, next_for_line};
 use crate::request_log::words::{SERVED, bank_number, line_counter, row_counter, tag_word};
 use sim_base::message::{Access, Request};
@@ -86,6 +88,8 @@ pub struct RequestLog {
     log: Vec<Arrived>,
     /// For each request a byte that a search for a bank's requests looks for.
     tags: Vec<u8>,
+    /// From each request to the next one of its bank and access.
+    chains: Chains,
     /// How many requests wait that are blocked by an older one of their line.
     blocked: usize,
     /// How many requests that wait are for the lines of each counter. There are so many counters that few count two
@@ -119,6 +123,7 @@ impl RequestLog {
     ghost use Rattle.queue.specs.Log.{is_eligible_at, marks_once_served};
     ghost use Rattle.sim_base.specs.Scheduling.{asks_for_line};
     ghost use Rattle.queue.specs.Columns.{tag_column, NoneAsksForRow};
+    ghost use Rattle.queue.specs.Chains.{IsNextAlike};
 
     /// A log with no requests, and with `places` places for them, of which at most `room` wait at a time. Only this
     /// call allocates memory.
@@ -133,6 +138,7 @@ impl RequestLog {
             places,
             log: Vec::with_capacity(alloc, places)?,
             tags: Vec::with_capacity(alloc, places)?,
+            chains: Chains::with_places(alloc, places)?,
             blocked: 0,
             lines,
             mask,
@@ -168,6 +174,19 @@ impl RequestLog {
         ensures { result.now ≡ tag_column self.now.log }
     {
         &self.tags
+    }
+
+    /// The place of the next request, of those that wait and those that were served, that is of the same access as the
+    /// request at a place and of its bank, or of one with the same number modulo 64; none, where there is none.
+    #[inline(always)]
+    pub(crate) fn next_alike(&self, place: usize) -> Option<usize>
+        requires { place < length self.now.log }
+        ensures { IsNextAlike self.now.log place result }
+    {
+        match self.chains.behind[place].checked_sub(1) {
+            Some(next) => Some(usize::from(next)),
+            None => None,
+        }
     }
 
     /// Whether the request at a place waits, with no older one waiting for the same line.
@@ -246,6 +265,7 @@ impl RequestLog {
         let line = line_counter(request.place, self.mask);
         let alike = self.lines[line];
         self.tags.push_reserved(tag_of(!asked, request));
+        self.chains.join(class_of(request));
         self.log.push_reserved(Arrived {
             request,
             waits: true,
@@ -309,6 +329,7 @@ impl RequestLog {
     {
         keep_waiting(&self.log, &mut self.tags);
         self.log.retain(|arrived| arrived.waits);
+        self.chains.renew(&self.log);
     }
 
     /// The requests that wait, by age.

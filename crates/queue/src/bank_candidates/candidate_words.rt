@@ -5,7 +5,7 @@ ghost use Rattle.sim_base.specs.Earlier.{earlier};
 ghost use Rattle.queue.specs.Words.{candidate_of, word_of, IsShort, set_number, Agree};
 
 use crate::bank_candidates::entry::AccessCandidates;
-use crate::bank_candidates::search::{candidates_from, first_from, first_hit};
+use crate::bank_candidates::search::{first_behind, first_from, first_hit};
 use crate::bank_candidates::sets::BankSet;
 use crate::request_log::RequestLog;
 use crate::request_log::words::write_bit;
@@ -117,7 +117,7 @@ impl CandidateWords {
     ghost use Rattle.queue.specs.Changes.{HasWordsOf, candidate_at, candidates_at, first_at, HasNoCandidate};
     ghost use Rattle.queue.specs.Changes.{SameRoom, SameCandidate, SameOthers, SameOtherBanks};
     ghost use Rattle.queue.specs.Changes.{HasNewest, HasTakenIn, IsClosed};
-    ghost use Rattle.queue.specs.Served.{HasDeparted, candidate_for, wants_like};
+    ghost use Rattle.queue.specs.Served.{HasDeparted, candidate_for, is_asked_like, wants_like};
 
     /// The places of the candidates of an empty log.
     pub(crate) fn with_room(alloc: Global, banks: usize) -> Result<Self, AllocError>
@@ -261,10 +261,9 @@ impl CandidateWords {
             → AreFirst log.now.log bank access (Some row) (candidates_at self.new bank access) }
         ensures others { SameOthers self.old self.new bank access }
     {
-        if let Some(oldest) = self.candidate(bank, access, false) {
-            let hit = first_hit(log, oldest, bank, access, row);
-            self.set(bank, access, true, hit);
-        }
+        let oldest = self.candidate(bank, access, false);
+        let hit = first_hit(log, oldest, bank, access, Some(row));
+        self.set(bank, access, true, hit);
     }
 
     /// Looks for the next candidate, behind the request that was served, if that was the candidate: the next one of its
@@ -278,6 +277,7 @@ impl CandidateWords {
         ensures kept { candidate_for self.old departure hit ≢ Some departure.place
             → SameCandidate self.old self.new departure.bank departure.access hit }
         ensures found { candidate_for self.old departure hit ≡ Some departure.place
+            → is_asked_like log.now.log departure ≡ true
             → IsFirstFrom (wants_like departure row) log.now.log (departure.place + 1)
             (candidate_for self.new departure hit) }
         ensures beside { SameCandidate self.old self.new departure.bank departure.access (not hit) }
@@ -290,7 +290,7 @@ impl CandidateWords {
             ..
         } = departure;
         if self.is_at(bank, access, hit, place) {
-            let next = first_from(log, place + 1, bank, access, row);
+            let next = first_behind(log, place, bank, access, row);
             self.set(bank, access, hit, next);
         }
     }
@@ -316,8 +316,9 @@ impl CandidateWords {
             return;
         }
         if self.is_at(bank, access, false, place) && self.is_at(bank, access, true, place) {
-            let behind = candidates_from(log, place + 1, bank, access, row);
-            self.set_both(bank, access, behind);
+            let oldest = first_behind(log, place, bank, access, None);
+            let hit = first_hit(log, oldest, bank, access, row);
+            self.set_both(bank, access, AccessCandidates { oldest, hit });
             return;
         }
         self.replace(log, departure, false, None);
@@ -348,7 +349,8 @@ impl CandidateWords {
         ensures own { AreFirst log.now.log bank access row (candidates_at self.new bank access) }
         ensures others { SameOthers self.old self.new bank access }
     {
-        let candidates = candidates_from(log, 0, bank, access, row);
-        self.set_both(bank, access, candidates);
+        let oldest = first_from(log, 0, bank, access, None);
+        let hit = first_hit(log, oldest, bank, access, row);
+        self.set_both(bank, access, AccessCandidates { oldest, hit });
     }
 }

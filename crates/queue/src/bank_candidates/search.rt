@@ -1,11 +1,9 @@
 //! Searches for the first request of a bank and an access.
 
-ghost use Rattle.std.specs.Prelude.{◌≡◌, ◌-◌, ◌<◌, ◌^◌, false, length, Some, IfSome};
-ghost use Rattle.queue.specs.Candidates.{asks, wants, AreFirst, NonePasses};
-ghost use Rattle.queue.specs.Moves.{IsFirstFrom, IsFirstHit, NonePassesBefore};
-ghost use Rattle.queue.specs.Words.{IsShort};
+ghost use Rattle.std.specs.Prelude.{◌≡◌, ◌+◌, ◌-◌, ◌<◌, ◌^◌, true, false, length, Some, IfSome};
+ghost use Rattle.queue.specs.Candidates.{asks_at, wants, NonePasses};
+ghost use Rattle.queue.specs.Moves.{IsFirstFrom, IsFirstHit};
 
-use crate::bank_candidates::entry::AccessCandidates;
 use crate::request_log::RequestLog;
 use crate::request_log::words::{bank_number, tag_word};
 use memchr::memchr;
@@ -67,61 +65,56 @@ pub(crate) fn first_from(
     None
 }
 
-/// The first request of a bank, to write or to read, that may be served and asks for a row. `oldest` is the first one
-/// that may be served, whatever row it asks for: the result is this one or a later one.
-pub(crate) fn first_hit(
+/// The first request behind a place that may be served, is of a bank and an access, and asks for a row if one is given;
+/// the request at the place is of that bank and access, so that the search goes from each such request to the next.
+#[inline(always)]
+pub(crate) fn first_behind(
     log: &RequestLog,
-    oldest: usize,
+    place: usize,
     bank: usize,
     access: Access,
-    row: u32,
+    row: Option<u32>,
 ) -> Option<usize>
-    requires short { oldest < 2 ^ 16 - 1 }
-    ensures first { IsFirstHit log.now.log bank access (Some row) (Some oldest) result }
+    requires { place < length log.now.log }
+    ensures first { asks_at bank access log.now.log place ≡ true
+        → IsFirstFrom (wants bank access row) log.now.log (place + 1) result }
     ensures within { IfSome result (λ k. k < length log.now.log) }
 {
-    let arrived = log.log();
-    if oldest < arrived.len() && arrived[oldest].request.place.row == row {
-        return Some(oldest);
+    if !may_be_wanted(log, bank, access, row) {
+        return None;
     }
-    first_from(log, oldest + 1, bank, access, Some(row))
+    let mut alike = log.next_alike(place);
+    while let Some(next) = alike {
+        if log.is_eligible(next) && is_wanted(&log.log()[next].request, bank, access, row) {
+            return Some(next);
+        }
+        alike = log.next_alike(next);
+    }
+    None
 }
 
 /// The first request of a bank, to write or to read, that may be served and asks for the open row, if one is open.
-/// `oldest` is the first one that may be served, whatever row it asks for, if there is one.
-pub(crate) fn first_open_hit(
+/// `oldest` is the first one that may be served, whatever row it asks for, if there is one: the result is this one or a
+/// later one.
+pub(crate) fn first_hit(
     log: &RequestLog,
     oldest: Option<usize>,
     bank: usize,
     access: Access,
     row: Option<u32>,
 ) -> Option<usize>
-    requires short { IsShort oldest }
     ensures first { IsFirstHit log.now.log bank access row oldest result }
     ensures within { IfSome result (λ k. k < length log.now.log) }
 {
-    match (row, oldest) {
-        (Some(row), Some(oldest)) => first_hit(log, oldest, bank, access, row),
-        _ => None,
+    let (Some(row), Some(oldest)) = (row, oldest) else {
+        return None;
+    };
+    let arrived = log.log();
+    if oldest >= arrived.len() {
+        return None;
     }
-}
-
-/// The candidates of a bank to write, or to read, where no request before a place is of them and may be served.
-#[inline(always)]
-pub(crate) fn candidates_from(
-    log: &RequestLog,
-    from: usize,
-    bank: usize,
-    access: Access,
-    row: Option<u32>,
-) -> AccessCandidates
-    requires { length log.now.log < 2 ^ 16 - 1 }
-    ensures first { NonePassesBefore (asks bank access) log.now.log from
-        → AreFirst log.now.log bank access row result }
-    ensures oldest { IsShort result.oldest }
-    ensures hit { IsShort result.hit }
-{
-    let oldest = first_from(log, from, bank, access, None);
-    let hit = first_open_hit(log, oldest, bank, access, row);
-    AccessCandidates { oldest, hit }
+    if arrived[oldest].request.place.row == row {
+        return Some(oldest);
+    }
+    first_behind(log, oldest, bank, access, Some(row))
 }

@@ -50,20 +50,8 @@ pub(crate) fn next_for_line(
     None
 }
 
-/// Above this number of requests there are fewer counters for each.
+/// There are 16 counters for each request, or 4 above this number of requests, since few queues are ever nearly full.
 const MANY: usize = 4_096;
-
-/// How many counters there are at least for `room` requests: 16 for each, or 4 where `room` is large, since few queues
-/// are ever nearly full.
-fn wanted_for(room: usize) -> usize
-    ensures { result < 2 ^ 30 }
-{
-    if room <= MANY {
-        room * 16
-    } else {
-        room.min(1 << 20) * 4
-    }
-}
 
 /// Counters that count nothing, for `room` requests, and the highest of them: a power of two of them, so that few
 /// requests share one.
@@ -72,7 +60,11 @@ pub(crate) fn counters(alloc: Global, room: usize) -> Result<(Vec<u16>, usize), 
     ensures lines { IfOk result (λ made. AreCounted (counter_of_line made.1) made.0.items []) }
     ensures rows { IfOk result (λ made. AreCounted (counter_of_row made.1) made.0.items []) }
 {
-    let wanted = wanted_for(room);
+    let wanted = if room <= MANY {
+        room * 16
+    } else {
+        room.min(1 << 20) * 4
+    };
     let mut mask = 255;
     while mask < wanted {
         mask = mask * 2 + 1;

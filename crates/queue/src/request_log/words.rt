@@ -21,14 +21,6 @@ pub fn bank_number(place: Place) -> usize
     (place.rank as usize * 4 + place.group as usize) * 4 + place.bank as usize
 }
 
-/// The word that says whether a test holds.
-#[inline(always)]
-fn mark(test: bool) -> u64
-    ensures { result ≡ one_if test }
-{
-    if test { 1 } else { 0 }
-}
-
 /// 1 for a write, 0 for a read.
 #[inline(always)]
 pub(crate) fn write_bit(access: Access) -> usize
@@ -47,7 +39,7 @@ pub(crate) fn write_bit(access: Access) -> usize
 pub fn tag_word(eligible: bool, access: Access, bank: u64) -> u8
     ensures { result ≡ tag_word eligible access bank }
 {
-    let flags = mark(eligible) * 2 + write_bit(access) as u64;
+    let flags = u64::from(eligible) * 2 + write_bit(access) as u64;
     (flags * 64 + bank % 64) as u8
 }
 

@@ -1,10 +1,12 @@
 -- The tag of the request says whether an older one of its line waits.
-use Rattle.std.proofs.Common.{◌≡◌, ◌+◌, ◌<◌, ◌++◌, ◌∷◌, [], not, cond, length, get_or, sym, ap, ◌∙◌, arith}
+use Rattle.std.proofs.Common.{◌≡◌, ◌+◌, ◌<◌, ◌++◌, ◌∷◌, [], not, cond, length, get_or, sym, ap, subst, ◌∙◌, arith}
 use Rattle.std.proofs.lemmas.List.{length_push, length-set, get_or_default}
 use Rattle.sim_base.specs.Scheduling.{asks_for_line}
 use Rattle.sim_base.proofs.Lists.{bit}
 use Rattle.queue.specs.Log.{arrived_now, waiting_requests}
 use Rattle.queue.specs.Columns.{counter_of_line, counter_of_row, tag_word, bank_number, tag_column, blocked_count}
+use Rattle.queue.specs.Chains.{classes_of, AreChained}
+use Rattle.queue.proofs.Chained.{classes-push}
 use Rattle.queue.proofs.Tags.{length-tags}
 use Rattle.queue.proofs.TagsChanged.{tag_push, blocked_push}
 use Rattle.queue.proofs.Counted.{few_counted, counted_push, requests_push, requests_few, blocked_few, byte_is}
@@ -62,6 +64,10 @@ invariant_of-self c =
           ∙ (λ i. k.tags_are i ++ (c.tag_of.ensures ∙ ap (λ b. tag_word (not b) r.access (bank_number r.place)) asked) i ∷ [])
           ∙ sym (tag_push log r)
           ∙ ap tag_column (sym more);
+      chained =
+          subst (λ classes. AreChained classes c.join.new.self)
+          ((λ i. classes_of log ++ c.class_of.ensures.value i ∷ []) ∙ sym (classes-push log (arrived_now r)) ∙ ap classes_of (sym more))
+          (c.join.ensures.chained (classes_of log) k.chained);
       blocked_are = (λ i. k.blocked_are i + (c.from.ensures ∙ byte_is c.is_line_asked-asked.result ∙ ap (λ b. cond b 1 0) asked) i) ∙ sym (blocked_push log r) ∙ ap blocked_count (sym more);
       masked = omega (arith, k.masked, length-set q.lines.items line (c.index-alike.result.now + 1));
       lines_are =
@@ -74,5 +80,6 @@ invariant_of-self c =
       within = omega (arith, ap length more, length_push log (arrived_now r), free);
       log_room = omega (arith, k.log_room, c.push_reserved-2.ensures.capacity);
       tag_room = omega (arith, k.tag_room, c.push_reserved.ensures.capacity);
+      chain_room = omega (arith, k.chain_room, c.join.ensures.room);
       short = k.short;
     }

@@ -9,6 +9,8 @@ use Rattle.queue.specs.Log.{LogView, absent, served_at, waits_at, waiting_reques
 use Rattle.queue.specs.Columns.{counter_of_line, counter_of_row, line_counter, bank_number, tag_word, served_tag, tag_column, blocked_count, AreCounted}
 use Rattle.queue.specs.Lines.{NoneTaggedAs, IsFoundAt}
 use Rattle.queue.specs.RequestLogKept.{AreTagged}
+use Rattle.queue.specs.Chains.{classes_of, AreChained}
+use Rattle.queue.proofs.Chained.{classes-set}
 use Rattle.queue.proofs.Counted.{none_asks}
 use Rattle.queue.proofs.Places.{length-served}
 use Rattle.queue.proofs.Tags.{length-tags}
@@ -72,6 +74,7 @@ left c tags blocked exists waiting there whole tags_are room blocked_are =
     let row_is = c.row_counter_of-row.ensures.value ∙ ap (λ (a : Arrived). counter_of_row q.row_mask a.request) there in
     record {
       tags_are = tags_are ∙ ap tag_column (sym whole);
+      chained = subst (λ classes. AreChained classes q.chains) (sym (ap classes_of whole ∙ classes-set q.log.items place (record (get_or q.log.items place absent) { waits = false }) absent refl)) k.chained;
       blocked_are = blocked_are ∙ ap blocked_count (sym whole);
       masked = omega (arith, k.masked, length-set q.lines.items line (c.index-2.result.now - 1));
       lines_are =
@@ -86,6 +89,7 @@ left c tags blocked exists waiting there whole tags_are room blocked_are =
       within = omega (arith, k.within, ap length whole, length-served q.log.items place);
       log_room = k.log_room;
       tag_room = omega (arith, k.tag_room, room);
+      chain_room = k.chain_room;
       short = k.short;
     }
 

@@ -1,11 +1,17 @@
 -- Where none is left there is no candidate, and else each is the first with the one that may be served now.
-use Rattle.std.proofs.Common.{◌≡◌, ℕ, ◌+◌, ◌≢◌, List, Option, Some, None, sym, ap, ◌∙◌}
+use Rattle.std.proofs.Common.{◌≡◌, ℕ, ◌+◌, ◌≢◌, Bool, true, false, List, get_or, Option, Some, None, sym, ap, ◌∙◌}
+use Rattle.std.proofs.lemmas.Bool.{and_parts}
+use Rattle.std.proofs.lemmas.List.{get_or-set_same}
+use Rattle.sim_base.specs.Rules.{is_row}
 use Rattle.sim_base.specs.declared.message.Access.{Access}
+use Rattle.sim_base.specs.declared.message.Request.{Request}
 use Rattle.queue.specs.declared.request_log.Arrived.{Arrived}
-use Rattle.queue.specs.Candidates.{asks, hits, wants, first_place}
+use Rattle.queue.specs.Log.{absent}
+use Rattle.queue.specs.Candidates.{asks, asks_at, hits, wants, first_place}
 use Rattle.queue.specs.Moves.{NonePassesBefore}
 use Rattle.sim_base.specs.Earlier.{earlier}
 use Rattle.queue.specs.Served.{passing, IsServed}
+use Rattle.queue.proofs.Hits.{first_asks}
 use Rattle.queue.proofs.OneBank.{never_hits, hits_narrower}
 use Rattle.queue.proofs.Searches.{none_everywhere, none_narrower_all}
 use Rattle.queue.proofs.BankCandidatesCounted.{no_first}
@@ -22,6 +28,17 @@ left_hit bank access None was log place unblocked old new served is kept found =
     left_candidate (hits bank access None) was log place unblocked old new served is kept (λ there. absurd (cc (never ∙ there)))
 left_hit bank access (Some row) was log place unblocked old new served is kept found =
     left_candidate (hits bank access (Some row)) was log place unblocked old new served is kept found
+
+-- the request that was served asks for the bank and the access where it was the first of them
+asked : (test : Request → Bool) (bank : ℕ) (access : Access) (was log : List Arrived) (place : ℕ) (unblocked : Option ℕ) → ((r : Request) → test r ≡ true → asks bank access r ≡ true)
+    → IsServed was place unblocked log → Some place ≡ first_place test was → asks_at bank access log place ≡ true
+asked test bank access was log place unblocked narrower served is =
+    ap (λ (l : List Arrived). asks bank access (get_or l place absent).request) served.log_is
+    ∙ ap (λ (a : Arrived). asks bank access a.request) (get_or-set_same was place (record (get_or was place absent) { waits = false }) absent served.within)
+    ∙ narrower (get_or was place absent).request (first_asks test was place is).1
+
+hits-ask : (bank : ℕ) (access : Access) (row : Option ℕ) (r : Request) → hits bank access row r ≡ true → asks bank access r ≡ true
+hits-ask bank access row r is = (and_parts (asks bank access r) (is_row r.place.row row) is).0
 
 pub returns-then-empty-clause-own : goal.returns-then-empty-clause-own
 returns-then-empty-clause-own c was unblocked served empty first =
@@ -48,14 +65,16 @@ returns-then-is_at-2-clause-own c was unblocked served empty first =
     let place = c.args.departure.place in
     let oldest_there = c.is_at.ensures.there c.if-is_at.true in
     let hit_there = c.is_at-then-is_at.ensures.there c.if-is_at-2.true in
-    let behind = c.candidates_from-behind.ensures.first (none_left (asks bank access) was log place unblocked served (sym first.oldest_is ∙ oldest_there)) in
+    let oldest =
+    c.first_behind-oldest.ensures.first (asked (asks bank access) bank access was log place unblocked (λ r h. h) served (sym oldest_there ∙ first.oldest_is))
+    (none_left (asks bank access) was log place unblocked served (sym first.oldest_is ∙ oldest_there)) in
     record {
       oldest_is =
           left_candidate (asks bank access) was log place unblocked _ _ served first.oldest_is (λ apart. absurd (apart oldest_there))
-          (λ there none. ap (λ x. x.oldest) c.set_both-then-is_at-2.ensures.same ∙ behind.oldest_is);
+          (λ there none. ap (λ x. x.oldest) c.set_both-then-is_at-2.ensures.same ∙ oldest);
       hit_is =
           left_candidate (hits bank access row) was log place unblocked _ _ served first.hit_is (λ apart. absurd (apart hit_there))
-          (λ there none. ap (λ x. x.hit) c.set_both-then-is_at-2.ensures.same ∙ behind.hit_is);
+          (λ there none. ap (λ x. x.hit) c.set_both-then-is_at-2.ensures.same ∙ c.first_hit-hit.ensures.first oldest);
     }
 
 pub returns-clause-own : goal.returns-clause-own
@@ -70,7 +89,8 @@ returns-clause-own c was unblocked served empty first =
     record {
       oldest_is =
           left_candidate (asks bank access) was log place unblocked _ _ served first.oldest_is (λ apart. hit.beside ∙ oldest.kept apart)
-          (λ there none. hit.beside ∙ oldest.found there none);
+          (λ there none. hit.beside ∙ oldest.found there (asked (asks bank access) bank access was log place unblocked (λ r h. h) served (sym there ∙ first.oldest_is)) none);
       hit_is =
-          left_hit bank access row was log place unblocked _ _ served (oldest.beside ∙ first.hit_is) hit.kept hit.found;
+          left_hit bank access row was log place unblocked _ _ served (oldest.beside ∙ first.hit_is) hit.kept
+          (λ there none. hit.found there (asked (hits bank access row) bank access was log place unblocked (hits-ask bank access row) served (sym there ∙ oldest.beside ∙ first.hit_is)) none);
     }
