@@ -1,8 +1,10 @@
 -- Chains of the requests of a log: from each to the next one of its class.
 --     class_of r, class_of_all bank access      the class of a request: of its bank, modulo 64, and its access
 --     classes_of log      the class of each request of a log
---     NoneOf classes class from      no request from a place on is of a class
+--     NoneOf classes class from until      no request from a place on and before another is of a class
+--     IsFirstOf classes class from next      the request at a place is the first of a class from a place on
 --     IsNextOf classes class from next      the first request of a class from a place on, if there is one
+--     IsLastAt classes class last      the request at a place is the last of a class
 --     IsLastOf classes class last      the last request of a class, if there is one
 --     AreChained classes chains      the chains are those of requests of these classes
 --     HasClasses chains      they are those of some requests
@@ -27,7 +29,7 @@ class_of r = class_of_all (bank_number r.place) r.access
 abbrev pub classes_of : List Arrived → List ℕ
 classes_of log = map (λ a. class_of a.request) log
 
--- no request from place `from` on is of a class
+-- no request from place `from` on and before place `until` is of a class
 abbrev pub NoneOf : List ℕ → ℕ → ℕ → ℕ → Type 0
 NoneOf classes class from until =
     (k : ℕ) → from ≤ k → k < until → slice_index_or classes k 0 ≡ class → ⊥
