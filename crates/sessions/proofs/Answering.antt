@@ -20,7 +20,7 @@ use Rattle.channel_step.specs.Fit.{ComeByAge}
 use Rattle.channel_step.specs.Past.{CarriesRequest}
 use Rattle.channel_step.specs.Runs.{with_more}
 use Rattle.channel_step.proofs.Requests.{carries-stamped}
-use Rattle.sessions.specs.Held.{commands_left, replies_left, HasCommands, HasReplies}
+use Rattle.sessions.specs.Held.{commands_left, HasCommands}
 use Rattle.sessions.specs.Keeps.{steps_of, waiting, Keeps}
 use Rattle.sessions.specs.Sent.{message_of, firsts_with}
 use Rattle.sessions.specs.Sessions.{Past, IsSession, IsOpen, next_command_of, next_reply_of, no_past, with_sent, with_command, with_reply, refusal, IsAnswer, HasTaken}
@@ -112,9 +112,8 @@ sent-session a b p waits r h w e t =
       config_is = t.config_is ∙ h.config_is;
       number_is = t.number_is ∙ h.number_is;
       commands_are = ap (issued_commands p.channel) then ∙ h.commands_are ∙ ap (λ (x : HeldCommands). p.commands ++ commands_left x) (sym t.commands_are);
-      replies_are = ap (channel_messages p.config p.channel) then ∙ h.replies_are ∙ ap (λ (x : HeldReplies). p.replies ++ replies_left x) (sym t.replies_are);
+      replies_are = ap (channel_messages p.config p.channel) then ∙ h.replies_are ∙ ap (λ (x : HeldReplies). p.replies ++ x.all.items) (sym t.replies_are);
       has_commands = subst HasCommands (sym t.commands_are) h.has_commands;
-      has_replies = subst HasReplies (sym t.replies_are) h.has_replies;
       keeps = subst (λ c. Keeps c p.config p.channel b.cycle b.firsts.items (p.sent ++ m ∷ []) b.coming.items) (sym t.channel_is)
           (subst (λ n. Keeps a.channel p.config p.channel n b.firsts.items (p.sent ++ m ∷ []) b.coming.items) (sym t.cycle_is)
           (subst (λ f. Keeps a.channel p.config p.channel a.cycle f (p.sent ++ m ∷ []) b.coming.items) (sym t.firsts_are)
@@ -147,9 +146,8 @@ pub record Ran (a b : Session) (until : ℕ) (rest : List Message) (commands : L
   pub firsts_are : b.firsts.items ≡ a.firsts.items
   pub coming_are : b.coming.items ≡ rest
   pub commands_are : commands_left b.commands ≡ commands_left a.commands ++ commands
-  pub replies_are : replies_left b.replies ≡ replies_left a.replies ++ replies
+  pub replies_are : b.replies.all.items ≡ a.replies.all.items ++ replies
   pub has_commands : HasCommands b.commands
-  pub has_replies : HasReplies b.replies
 
 pub ran-session : (a b : Session) (p : Past) (until : ℕ) (rest : List Message) (commands : List IssuedCommand) (replies : List Message) → IsSession a p → Ran a b until rest commands replies
     → HasAdvanced b.channel p.config p.channel a.cycle a.firsts.items p.sent rest until commands replies → IsSession b p
@@ -160,19 +158,18 @@ ran-session a b p until rest commands replies h r g =
       commands_are = ap (λ n. issued_commands p.channel (steps_of p.config p.channel p.sent n)) r.cycle_is ∙ g.commands_are ∙ ap (λ x. x ++ commands) h.commands_are
           ∙ append_assoc p.commands (commands_left a.commands) commands ∙ ap (λ x. p.commands ++ x) (sym r.commands_are);
       replies_are = ap (λ n. channel_messages p.config p.channel (steps_of p.config p.channel p.sent n)) r.cycle_is ∙ g.replies_are ∙ ap (λ x. x ++ replies) h.replies_are
-          ∙ append_assoc p.replies (replies_left a.replies) replies ∙ ap (λ x. p.replies ++ x) (sym r.replies_are);
+          ∙ append_assoc p.replies a.replies.all.items replies ∙ ap (λ x. p.replies ++ x) (sym r.replies_are);
       has_commands = r.has_commands;
-      has_replies = r.has_replies;
       keeps = subst (λ n. Keeps b.channel p.config p.channel n b.firsts.items p.sent b.coming.items) (sym r.cycle_is)
           (subst (λ f. Keeps b.channel p.config p.channel until f p.sent b.coming.items) (sym r.firsts_are)
           (subst (λ x. Keeps b.channel p.config p.channel until a.firsts.items p.sent x) (sym r.coming_are) g.keeps));
     }
 
 -- what is put behind a list, of which some were taken, stands behind what is left
-pub left-behind : {X : Type 0} (taken : ℕ) (before after left more : List X) → taken ≤ length before → after ≡ before ++ more → drop taken before ≡ left → drop taken after ≡ left ++ more
+left-behind : {X : Type 0} (taken : ℕ) (before after left more : List X) → taken ≤ length before → after ≡ before ++ more → drop taken before ≡ left → drop taken after ≡ left ++ more
 left-behind taken before after left more l is was = ap (drop taken) is ∙ drop-append-le taken before more l ∙ ap (λ x. x ++ more) was
 
-pub still-within : {X : Type 0} (taken : ℕ) (before after more : List X) → taken ≤ length before → after ≡ before ++ more → taken ≤ length after
+still-within : {X : Type 0} (taken : ℕ) (before after more : List X) → taken ≤ length before → after ≡ before ++ more → taken ≤ length after
 still-within taken before after more l is = let e : length after ≡ length before + length more = ap length is ∙ length-append before more in omega arith
 
 -- a list that was handed out and taken back, with more behind it
@@ -203,9 +200,8 @@ pub record Begins (a : Session) (s : Config) (channel : ℕ) : Type 0 where
   pub stands : StandsFor a.channel s channel [] []
   pub coming_are : a.coming.items ≡ []
   pub commands_are : commands_left a.commands ≡ []
-  pub replies_are : replies_left a.replies ≡ []
+  pub replies_are : a.replies.all.items ≡ []
   pub has_commands : HasCommands a.commands
-  pub has_replies : HasReplies a.replies
 
 pub first-session : (a : Session) (s : Config) (channel : ℕ) → Begins a s channel → IsSession a (no_past s channel)
 first-session a s channel h =
@@ -215,7 +211,6 @@ first-session a s channel h =
       commands_are = ap (λ n. issued_commands channel (steps_of s channel [] n)) h.cycle_is ∙ no-commands s channel ∙ sym h.commands_are;
       replies_are = ap (λ n. channel_messages s channel (steps_of s channel [] n)) h.cycle_is ∙ no-replies s channel ∙ sym h.replies_are;
       has_commands = h.has_commands;
-      has_replies = h.has_replies;
       keeps = subst (λ n. Keeps a.channel s channel n a.firsts.items [] a.coming.items) (sym h.cycle_is)
           (subst (λ x. Keeps a.channel s channel 0 a.firsts.items [] x) (sym h.coming_are) (keeps-first a.channel s channel a.firsts.items h.stands h.cores));
     }
@@ -231,9 +226,9 @@ held-command a p o h first =
     first ∙ sym (get-behind p.commands (commands_left a.commands)) ∙ ap (λ (cs : List IssuedCommand). slice_get cs (length p.commands)) (sym h.commands_are)
 
 -- the first reply that a session holds is the next one that was not taken
-pub held-reply : (a : Session) (p : Past) (o : Option Message) → IsSession a p → o ≡ slice_get (replies_left a.replies) 0 → o ≡ next_reply_of p a.cycle
+pub held-reply : (a : Session) (p : Past) (o : Option Message) → IsSession a p → o ≡ slice_get a.replies.all.items 0 → o ≡ next_reply_of p a.cycle
 held-reply a p o h first =
-    first ∙ sym (get-behind p.replies (replies_left a.replies)) ∙ ap (λ (ms : List Message). slice_get ms (length p.replies)) (sym h.replies_are)
+    first ∙ sym (get-behind p.replies a.replies.all.items) ∙ ap (λ (ms : List Message). slice_get ms (length p.replies)) (sym h.replies_are)
 
 -- a command was taken from those that a session holds, if it is one
 pub command-gone : (a : Session) (left : HeldCommands) (p : Past) (o : Option IssuedCommand) → IsSession a p → commands_left a.commands ≡ option_to_list o ++ commands_left left
@@ -244,7 +239,6 @@ command-gone a left p (Some command) h front has = record {
   commands_are = h.commands_are ∙ ap (λ cs. p.commands ++ cs) front ∙ sym (append_assoc p.commands (command ∷ []) (commands_left left));
   replies_are = h.replies_are;
   has_commands = has;
-  has_replies = h.has_replies;
   keeps = h.keeps;
 }
 command-gone a left p None h front has = record {
@@ -253,28 +247,25 @@ command-gone a left p None h front has = record {
   commands_are = h.commands_are ∙ ap (λ cs. p.commands ++ cs) front;
   replies_are = h.replies_are;
   has_commands = has;
-  has_replies = h.has_replies;
   keeps = h.keeps;
 }
 
 -- a reply, if there is one, was taken from those that a session holds
-pub reply-gone : (a : Session) (left : HeldReplies) (p : Past) (o : Option Message) → IsSession a p → replies_left a.replies ≡ option_to_list o ++ replies_left left
-    → HasReplies left → IsSession (record a { replies = left }) (with_reply p o)
-reply-gone a left p (Some reply) h front has = record {
+pub reply-gone : (a : Session) (left : HeldReplies) (p : Past) (o : Option Message) → IsSession a p → a.replies.all.items ≡ option_to_list o ++ left.all.items
+    → IsSession (record a { replies = left }) (with_reply p o)
+reply-gone a left p (Some reply) h front = record {
   config_is = h.config_is;
   number_is = h.number_is;
   commands_are = h.commands_are;
-  replies_are = h.replies_are ∙ ap (λ ms. p.replies ++ ms) front ∙ sym (append_assoc p.replies (reply ∷ []) (replies_left left));
+  replies_are = h.replies_are ∙ ap (λ ms. p.replies ++ ms) front ∙ sym (append_assoc p.replies (reply ∷ []) left.all.items);
   has_commands = h.has_commands;
-  has_replies = has;
   keeps = h.keeps;
 }
-reply-gone a left p None h front has = record {
+reply-gone a left p None h front = record {
   config_is = h.config_is;
   number_is = h.number_is;
   commands_are = h.commands_are;
   replies_are = h.replies_are ∙ ap (λ ms. p.replies ++ ms) front;
   has_commands = h.has_commands;
-  has_replies = has;
   keeps = h.keeps;
 }

@@ -24,7 +24,7 @@ use Rattle.statistics.specs.Channels.{channel_stats}
 use Rattle.statistics.specs.declared.channels.ChannelStats.{ChannelStats}
 use Rattle.sim_base.specs.Scheduling.{queue_room}
 use Rattle.sessions.specs.Sent.{message_of, is_unasked, firsts_with}
-use Rattle.sessions.specs.Held.{commands_left, replies_left, HasCommands, HasReplies}
+use Rattle.sessions.specs.Held.{commands_left, HasCommands}
 use Rattle.sessions.specs.Keeps.{steps_of, waiting, Keeps}
 use Rattle.sessions.specs.declared.channel_session.fault.SessionFault.{SessionFault}
 use Rattle.sessions.specs.declared.channel_session.fault.SessionFault.TheVariants.{NoSuchChannel, NoSuchCore, OtherChannel, InThePast, OutOfOrder, EntryPassed, NoCredit, Memory, EndPassed, EndTooLate}
@@ -70,9 +70,8 @@ pub record IsSession (session : Session) (p : Past) : Type 0 where
   pub config_is : session.config ≡ p.config
   pub number_is : session.number ≡ p.channel
   pub commands_are : commands_of p session.cycle ≡ p.commands ++ commands_left session.commands
-  pub replies_are : replies_of p session.cycle ≡ p.replies ++ replies_left session.replies
+  pub replies_are : replies_of p session.cycle ≡ p.replies ++ session.replies.all.items
   pub has_commands : HasCommands session.commands
-  pub has_replies : HasReplies session.replies
   pub keeps : Keeps session.channel p.config p.channel session.cycle session.firsts.items p.sent session.coming.items
 
 -- this is so of each past that a session may have

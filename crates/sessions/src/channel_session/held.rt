@@ -1,9 +1,9 @@
-//! Lists that grow at their end and are taken from their front, and keep their memory.
+//! Commands and replies that are held until they are taken: they join at the end, and are taken from the front.
 
-ghost use Rattle.std.specs.Prelude.{◌≡◌, ◌/◌, ◌&&◌, drop, nat_le, slice_get, option_to_list, ◌++◌, Some, IfOk, IfSome, OnOk, []};
-ghost use Rattle.sessions.specs.Held.{commands_left, replies_left, HasCommands, HasReplies};
+ghost use Rattle.std.specs.Prelude.{◌≡◌, ◌+◌, ◌/◌, ◌≤◌, ◌&&◌, drop, length, nat_le, slice_get, option_to_list, ◌++◌, Some, IfOk, IfSome, OnOk, OnErr, []};
+ghost use Rattle.sessions.specs.Held.{commands_left, HasCommands};
 
-use crate::channel_session::rows::remove_front;
+use circular_buffer::HeapCircularBuffer;
 use command_table::list::CommandList;
 use sim_base::command::IssuedCommand;
 use sim_base::message::Message;
@@ -17,11 +17,10 @@ pub(crate) struct HeldCommands {
     pub(crate) taken: usize,
 }
 
-/// Replies and credits that were sent: those before a place were taken.
+/// Replies and credits that were sent and not taken, from the first on.
 #[derive(Drop)]
 pub(crate) struct HeldReplies {
-    pub(crate) all: Vec<Message>,
-    pub(crate) taken: usize,
+    pub(crate) all: HeapCircularBuffer<Message>,
 }
 
 /// Whether so many of all rows are taken that the list is to forget them: 1,024 at least, and half of all.
@@ -117,47 +116,51 @@ impl HeldCommands {
 }
 
 impl HeldReplies {
-    /// None yet.
-    pub(crate) fn new(alloc: Global) -> HeldReplies
-        ensures none { replies_left result ≡ [] }
-        ensures within { HasReplies result }
+    /// None yet. The only error is out of memory.
+    pub(crate) fn new(alloc: Global) -> Result<HeldReplies, AllocError>
+        ensures { IfOk result (λ held. held.all.items ≡ []) }
     {
-        HeldReplies {
-            all: Vec::new(alloc),
-            taken: 0,
-        }
+        let all = HeapCircularBuffer::with_capacity(alloc, 0)?;
+        Ok(HeldReplies { all })
     }
 
     /// The first that was not taken, if there is one.
     pub(crate) fn first(&self) -> Option<Message>
-        ensures { result ≡ slice_get (replies_left self.now) 0 }
+        ensures { result ≡ slice_get self.now.all.items 0 }
     {
-        self.all.get(self.taken).copied()
+        self.all.front().copied()
     }
 
     /// Takes the first that was not taken, if there is one.
     pub(crate) fn take_next(&mut self) -> Option<Message>
-        ensures next { result ≡ slice_get (replies_left self.old) 0 }
-        ensures front { replies_left self.old ≡ option_to_list result ++ replies_left self.new }
-        ensures within { HasReplies self.old → HasReplies self.new }
+        ensures next { result ≡ slice_get self.old.all.items 0 }
+        ensures front { self.old.all.items ≡ option_to_list result ++ self.new.all.items }
     {
-        let place = self.taken;
-        if self.all.len() <= place {
-            return None;
-        }
-        self.taken = place + 1;
-        self.all.get(place).copied()
+        self.all.pop_front()
     }
 
-    /// Forgets what was taken, where it is most of many.
-    pub(crate) fn forget_taken(&mut self)
-        requires { HasReplies self.old }
-        ensures left { replies_left self.new ≡ replies_left self.old }
-        ensures within { HasReplies self.new }
+    /// Makes room for `more` further ones. Where it grows, it at least doubles, so that few are moved. The only error is
+    /// out of memory.
+    fn make_room(&mut self, more: usize) -> Result<(), AllocError>
+        ensures items { self.new.all.items ≡ self.old.all.items }
+        ensures room { OnOk result (length self.old.all.items + more ≤ self.new.all.capacity) }
     {
-        if are_most(self.taken, self.all.len()) {
-            remove_front(&mut self.all, self.taken);
-            self.taken = 0;
+        let capacity = self.all.capacity();
+        let needed = self.all.len().checked_add(more).ok_or(AllocError)?;
+        if needed <= capacity {
+            return Ok(());
         }
+        self.all.resize(needed.max(2 * capacity))
+    }
+
+    /// Puts what was sent behind the others. The only error is out of memory.
+    pub(crate) fn put(&mut self, sent: &[Message]) -> Result<(), AllocError>
+        ensures put { OnOk result (self.new.all.items ≡ self.old.all.items ++ sent.now) }
+        ensures same { OnErr result (self.new.all.items ≡ self.old.all.items) }
+    {
+        self.make_room(sent.len())?;
+        // there is room for all of them
+        let _count = self.all.fill_from_slice(sent);
+        Ok(())
     }
 }

@@ -41,8 +41,10 @@ pub struct Session {
     coming: Vec<Message>,
     /// The commands that were issued, and how many were taken.
     commands: HeldCommands,
-    /// The replies and credits that were sent, and how many were taken.
+    /// The replies and credits that were sent and not taken.
     replies: HeldReplies,
+    /// What the channel sends in a run: it is put behind the replies when the run ends.
+    sent: Vec<Message>,
 }
 
 impl Session {
@@ -80,7 +82,8 @@ impl Session {
             firsts,
             coming: Vec::new(alloc),
             commands: HeldCommands::new(alloc),
-            replies: HeldReplies::new(alloc),
+            replies: HeldReplies::new(alloc)?,
+            sent: Vec::new(alloc),
         })
     }
 
@@ -236,15 +239,16 @@ impl Session {
     {
         let due = self.due_count(until);
         self.commands.forget_taken(alloc)?;
-        self.replies.forget_taken();
         let mut commands = self.commands.hand_out(alloc);
+        self.sent.clear();
         self.channel.run(
             &self.coming[..due],
             self.cycle..until,
             &mut commands,
-            &mut self.replies.all,
+            &mut self.sent,
         )?;
         self.commands.take_back(commands);
+        self.replies.put(&self.sent)?;
         remove_front(&mut self.coming, due);
         self.cycle = until;
         Ok(())

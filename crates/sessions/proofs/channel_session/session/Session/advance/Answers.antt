@@ -1,10 +1,10 @@
-use Rattle.std.proofs.Common.{◌≡◌, ◌∙◌, take, drop, refl, sym, subst, ap}
+use Rattle.std.proofs.Common.{◌≡◌, ◌∙◌, ◌++◌, take, drop, refl, sym, subst, ap}
 use Rattle.std.proofs.lemmas.Result.{IfOk-from_err}
 use Rattle.channel_step.specs.Fit.{IsFit}
 use Rattle.channel_step.specs.Runs.{CanRun, IsDone}
 use Rattle.sessions.specs.Keeps.{steps_of}
 use Rattle.sessions.proofs.Advancing.{keeps-at, keeps-fit, can-run, has-gone}
-use Rattle.sessions.proofs.Answering.{cut-at, ran-session, given-back, left-behind, still-within}
+use Rattle.sessions.proofs.Answering.{cut-at, ran-session, given-back}
 use Rattle.sessions.proofs.channel_session.session.Session.advance.Goals as goal
 
 pub run-requires-clause-can_run : goal.run-requires-clause-can_run
@@ -34,11 +34,11 @@ returns-clause-done c p h =
     let lent : take count c.deref.result.now ≡ inbox = ap (take count) c.deref.ensures.value in
     let done = (c.in_ok-run.ensures {u = tt}) p.config p.channel steps k.mail k.stands (keeps-at p.config p.channel session.cycle p.sent)
     (subst (λ x. IsFit p.config p.channel steps k.mail x session.cycle until) (sym lent) fit) in
-    let finished : IsDone c.run.new.self p.config p.channel steps k.mail inbox session.cycle until c.hand_out-commands.result c.run.new.commands c.forget_taken-2.new.self.all.items c.run.new.messages.items =
-    subst (λ x. IsDone c.run.new.self p.config p.channel steps k.mail x session.cycle until c.hand_out-commands.result c.run.new.commands c.forget_taken-2.new.self.all.items c.run.new.messages.items) lent done in
+    let finished : IsDone c.run.new.self p.config p.channel steps k.mail inbox session.cycle until c.hand_out-commands.result c.run.new.commands c.clear.new.self.items c.run.new.messages.items =
+    subst (λ x. IsDone c.run.new.self p.config p.channel steps k.mail x session.cycle until c.hand_out-commands.result c.run.new.commands c.clear.new.self.items c.run.new.messages.items) lent done in
     let gone = has-gone session.channel c.run.new.self p.config p.channel session.cycle session.firsts.items p.sent session.coming.items inbox rest until _ _ _ _ k cut c.requires.span c.requires.until finished in
     let forgot = c.in_ok-forget_taken.ensures {u = tt} in
-    let kept = c.forget_taken-2.new.self in
+    let all_sent : c.run.new.messages.items ≡ finished.sent = finished.messages_behind ∙ ap (λ ms. ms ++ finished.sent) c.clear.ensures.items in
     let behind = given-back c.forget_taken.new.self c.take_back.new.self c.hand_out-commands.result c.run.new.commands _ finished.issued c.hand_out-commands.ensures.list finished.commands_behind
     c.take_back.ensures.list (c.take_back.ensures.taken ∙ c.hand_out-commands.ensures.taken) (forgot.within h.has_commands) forgot.left in
     ran-session session _ p until rest finished.issued finished.sent h
@@ -49,9 +49,8 @@ returns-clause-done c p h =
       firsts_are = refl;
       coming_are = c.remove_front.ensures;
       commands_are = behind.0;
-      replies_are = left-behind kept.taken kept.all.items c.run.new.messages.items _ finished.sent c.forget_taken-2.ensures.within finished.messages_behind c.forget_taken-2.ensures.left;
+      replies_are = (c.in_ok-put.ensures {u = tt}).put ∙ ap (λ ms. session.replies.all.items ++ ms) (c.deref-2.ensures.value ∙ all_sent);
       has_commands = behind.1;
-      has_replies = still-within kept.taken kept.all.items c.run.new.messages.items finished.sent c.forget_taken-2.ensures.within finished.messages_behind;
     })
     gone
 
@@ -76,5 +75,8 @@ returns-in_err-run-clause-now c = IfOk-from_err c.from_residual-in_err-run.resul
 pub returns-clause-now : goal.returns-clause-now
 returns-clause-now c = refl
 
-pub forget_taken-requires-2 : goal.forget_taken-requires-2
-forget_taken-requires-2 c = c.requires.open.is_session.has_replies
+pub returns-in_err-put-clause-done : goal.returns-in_err-put-clause-done
+returns-in_err-put-clause-done c = λ p h. IfOk-from_err c.from_residual-in_err-put.result _ c.from_residual-in_err-put.ensures.0
+
+pub returns-in_err-put-clause-now : goal.returns-in_err-put-clause-now
+returns-in_err-put-clause-now c = IfOk-from_err c.from_residual-in_err-put.result _ c.from_residual-in_err-put.ensures.0

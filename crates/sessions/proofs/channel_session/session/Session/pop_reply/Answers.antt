@@ -6,4 +6,4 @@ returns-clause-next c p h = held-reply c.args.self.now p c.take_next.result h c.
 
 pub returns-clause-taken : goal.returns-clause-taken
 returns-clause-taken c p h =
-    reply-gone c.args.self.now c.take_next.new.self p c.take_next.result h c.take_next.ensures.front (c.take_next.ensures.within h.has_replies)
+    reply-gone c.args.self.now c.take_next.new.self p c.take_next.result h c.take_next.ensures.front

@@ -14,7 +14,6 @@ returns-clause-opened c =
       stands = c.in_ok-start.ensures {u = tt};
       coming_are = c.new.ensures.items;
       commands_are = c.new-2.ensures.none;
-      replies_are = c.new-3.ensures.none;
+      replies_are = c.in_ok-new.ensures {u = tt};
       has_commands = c.new-2.ensures.within;
-      has_replies = c.new-3.ensures.within;
     })
