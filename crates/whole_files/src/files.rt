@@ -12,8 +12,8 @@ use crate::host_answers::{PathKind, bytes_read, folder_at, replaceable_link, sta
 use refusal::reason::Reason;
 use sim_base::fault::Fault;
 use std::alloc::Global;
-use std::fs::{self, OpenOptions};
-use std::io::{self, BufWriter, Write};
+use std::fs::{self, File, OpenFile, OpenOptions};
+use std::io::{self, BufWriter, Read, Write};
 use std::rt::Files;
 
 /// Files by their paths, as the program sees them. Tests put memory in their place.
@@ -99,6 +99,16 @@ pub trait FileSet {
         ensures unopened { tells → opened self.new ≡ opened self.old };
 }
 
+/// The bytes of a file, for which room is made at once.
+fn read_whole<R: Files + AllocGlobal>(rt: &R, path: &str) -> io::Result<Vec<u8>> {
+    let mut file = File::open(rt, path)?;
+    let length = usize::try_from(file.metadata()?.len()).unwrap_or(0);
+    // with a place more, in which the end is found without another block
+    let mut bytes = Vec::with_capacity(rt.alloc(), length.saturating_add(1))?;
+    file.read_to_end(&mut bytes)?;
+    Ok(bytes)
+}
+
 /// The files of the host.
 #[derive(Drop)]
 pub struct HostFiles<'a, R> {
@@ -175,7 +185,7 @@ impl<R: Files + AllocGlobal> FileSet for HostFiles<'_, R> {
     type Out = HostOut<R::File>;
 
     fn read(&mut self, alloc: Global, path: &str) -> Result<Vec<u8>, Reason> {
-        bytes_read(alloc, path, fs::read(self.rt, path))
+        bytes_read(alloc, path, read_whole(self.rt, path))
     }
 
     fn create(&mut self, alloc: Global, path: &str) -> Result<HostOut<R::File>, Reason> {
