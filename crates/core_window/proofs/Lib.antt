@@ -9,6 +9,7 @@ pub mod Foreseeing
 pub mod Taking
 pub mod Receiving
 pub mod Running
+pub mod Arriving
 pub mod Stretching
 pub mod Flowing
 pub mod Starting

@@ -1,8 +1,7 @@
 -- A core over many cycles.
-use Rattle.std.proofs.Common.{get_or, ◌≡◌, ℕ, zero, suc, ◌+◌, ◌-◌, ◌<◌, ◌≤◌, Bool, true, false, ◌&&◌, cond, List, [], ◌∷◌, ◌++◌, length, take, drop, Some, refl, sym, ap, ap₂, subst, ◌∙◌, add-zero, append_assoc, arith}
+use Rattle.std.proofs.Common.{◌≡◌, ℕ, zero, suc, ◌+◌, ◌-◌, ◌<◌, ◌≤◌, Bool, true, false, ◌&&◌, cond, List, [], ◌∷◌, ◌++◌, length, take, drop, Some, refl, sym, ap, ap₂, subst, ◌∙◌, add-zero, append_assoc, arith}
 use Rattle.std.specs.Prelude.{filter}
 use Rattle.std.specs.List.{AllByRecursion as Each}
-use Rattle.std.proofs.Math.Seq.{take-length}
 use Rattle.std.proofs.lemmas.Bool.{ne_eqb}
 use Rattle.std.proofs.lemmas.List.{append-nil}
 use Rattle.sim_base.specs.declared.config.Config.{Config}
@@ -24,6 +23,8 @@ use Rattle.sim_base.proofs.Each.{Each-append, Each-drop}
 use Rattle.statistics.specs.Cores.{core_stats, replies_in, is_reply_in}
 use Rattle.statistics.specs.Runs.{credits_of}
 use Rattle.statistics.specs.declared.final_state.Credits.{Credits}
+use Rattle.core_window.specs.Arriving.{IsByAge, all_arriving}
+use Rattle.core_window.specs.declared.receive.Arriving.{Arriving}
 use Rattle.core_window.specs.Fit.{MayCome, IsByArrival, IsFit, CanRun, RunsOver, RunsOnto}
 use Rattle.core_window.specs.Inside.{credits_now, StandsAt, IsStanding, IsReceiving, IsMidway, Sends, Advances, GoesOn}
 use Rattle.core_window.specs.Stands.{StandsFor}
@@ -177,13 +178,15 @@ pub record IsAt (inbox : List Message) (i : ℕ) (m : Message) : Type 0 where
   pub rest : drop i inbox ≡ m ∷ drop (i + 1) inbox
   pub more : take (i + 1) inbox ≡ take i inbox ++ m ∷ []
 
-pub is_at : (inbox : List Message) (i : ℕ) (d : Message) → i < length inbox → IsAt inbox i (get_or inbox i d)
-is_at [] i d l = absurd (omega arith)
-is_at (x ∷ xs) zero d l = record { rest = refl; more = refl }
-is_at (x ∷ xs) (suc i) d l =
-    let h : IsAt xs i (get_or xs i d) = is_at xs i d (omega arith) in
+-- what is left of an inbox begins with the message at its place
+pub is_at : (inbox : List Message) (i : ℕ) (m : Message) (later : List Message) → drop i inbox ≡ m ∷ later → IsAt inbox i m
+is_at [] zero m later e = absurd (cc)
+is_at [] (suc i) m later e = absurd (cc)
+is_at (x ∷ xs) zero m later e = record { rest = cc; more = cc }
+is_at (x ∷ xs) (suc i) m later e =
+    let h : IsAt xs i m = is_at xs i m later e in
     let n : suc i + 1 ≡ suc (i + 1) = omega arith in
-    record { rest = h.rest ∙ ap (λ k. get_or xs i d ∷ drop k (x ∷ xs)) (sym n); more = ap (λ k. take k (x ∷ xs)) n ∙ ap (λ l. x ∷ l) h.more }
+    record { rest = h.rest ∙ ap (λ k. m ∷ drop k (x ∷ xs)) (sym n); more = ap (λ k. take k (x ∷ xs)) n ∙ ap (λ l. x ∷ l) h.more }
 
 take-drop-all : (inbox : List Message) (i : ℕ) → take i inbox ++ drop i inbox ≡ inbox
 take-drop-all [] zero = refl
@@ -355,24 +358,19 @@ pub taking-more : (a : CoreView) (from until : ℕ) (inbox : List Message) (i : 
 taking-more a from until inbox i d e w y m h at now receives =
     record { sent = h.sent; behind = h.behind; taking = has_taken-more a from until inbox i d e h.sent m h.taking at now receives }
 
-drop-all : (inbox : List Message) → drop (length inbox) inbox ≡ []
-drop-all [] = refl
-drop-all (x ∷ xs) = drop-all xs
-
 -- all messages are taken
-has_taken-last : (a : CoreView) (from until : ℕ) (inbox : List Message) (b d : CoreView) (x y : List Message) → a.now ≡ from → b.now ≤ until
-    → HasTaken a from until inbox (length inbox) b x → Sends (until - b.now) b d y → RunsOver a from until inbox d (x ++ y)
-has_taken-last a from until inbox b d x y start l h adv s core trace steps mail st fit =
-    let n = length inbox in
+has_taken-last : (a : CoreView) (from until : ℕ) (inbox : List Message) (i : ℕ) (b d : CoreView) (x y : List Message) → a.now ≡ from → b.now ≤ until → drop i inbox ≡ []
+    → HasTaken a from until inbox i b x → Sends (until - b.now) b d y → RunsOver a from until inbox d (x ++ y)
+has_taken-last a from until inbox i b d x y start l none h adv s core trace steps mail st fit =
     let before = h s core trace steps mail st fit in
     let len : length steps ≡ from = sym st.now ∙ start in
-    let mid : IsMidway s core trace steps mail from until inbox n d (x ++ y) =
-    goes_on s core trace steps mail from until inbox n b d x y until len before l (omega arith) (subst (Each (λ (m : Message). until ≤ m.arrival)) (sym (drop-all inbox)) tt) adv in
-    let now : d.now ≡ until = now_at s core trace steps mail from until inbox n b d x y until len before l adv in
+    let mid : IsMidway s core trace steps mail from until inbox i d (x ++ y) =
+    goes_on s core trace steps mail from until inbox i b d x y until len before l (omega arith) (subst (Each (λ (m : Message). until ≤ m.arrival)) (sym none) tt) adv in
+    let now : d.now ≡ until = now_at s core trace steps mail from until inbox i b d x y until len before l adv in
     let rows' = core_run s core trace steps (mail ++ inbox) (until - from) in
-    let all : mail ++ take n inbox ≡ mail ++ inbox = ap (λ ms. mail ++ ms) (take-length inbox) in
+    let all : mail ++ take i inbox ≡ mail ++ inbox = ap (λ ms. mail ++ ms) (sym (append-nil (take i inbox)) ∙ ap (λ ms. take i inbox ++ ms) (sym none) ∙ take-drop-all inbox i) in
     let P : ℕ → List Message → Type 0 = λ k ms. StandsAt s core trace (core_run s core trace steps (mail ++ inbox) (k - from)) ms d in
-    let st1 : P until (mail ++ take n inbox) = subst (λ k. P k (mail ++ take n inbox)) now mid.stands in
+    let st1 : P until (mail ++ take i inbox) = subst (λ k. P k (mail ++ take i inbox)) now mid.stands in
     let st2 : StandsAt s core trace rows' (mail ++ inbox) d = subst (λ ms. P until ms) all st1 in
     let long : length rows' ≡ until = sym st2.now ∙ now in (
       stands-for s core trace rows' (mail ++ inbox) d st2
@@ -382,11 +380,18 @@ has_taken-last a from until inbox b d x y start l h adv s core trace steps mail 
       ap (λ k. core_messages s core trace (core_run s core trace steps (mail ++ inbox) (k - from))) (sym now) ∙ mid.messages,
     )
 
-pub taking-last : (a : CoreView) (from until : ℕ) (inbox : List Message) (b d : CoreView) (w x y : List Message) → a.now ≡ from → b.now ≤ until
-    → IsTaking a from until inbox (length inbox) b w x → Advances (until - b.now) b x d y → RunsOnto a from until inbox d w y
-taking-last a from until inbox b d w x y start l h adv =
+pub taking-last : (a : CoreView) (from until : ℕ) (inbox : List Message) (i : ℕ) (b d : CoreView) (w x y : List Message) → a.now ≡ from → b.now ≤ until → drop i inbox ≡ []
+    → IsTaking a from until inbox i b w x → Advances (until - b.now) b x d y → RunsOnto a from until inbox d w y
+taking-last a from until inbox i b d w x y start l none h adv =
     record {
       sent = h.sent ++ adv.sent;
       behind = adv.behind ∙ ap (λ l. l ++ adv.sent) h.behind ∙ append_assoc w h.sent adv.sent;
-      runs = has_taken-last a from until inbox b d h.sent adv.sent start l h.taking adv.sends;
+      runs = has_taken-last a from until inbox i b d h.sent adv.sent start l none h.taking adv.sends;
     }
+
+-- a core that takes what arrives, by age, and what it has not taken yet
+pub record IsTakingArriving (a : CoreView) (from until : ℕ) (arriving rest : Arriving) (b : CoreView) (held holds : List Message) : Type 0 where
+  pub taken : ℕ
+  pub left : all_arriving rest ≡ drop taken (all_arriving arriving)
+  pub by_age : IsByAge rest.credits.now
+  pub taking : IsTaking a from until (all_arriving arriving) taken b held holds

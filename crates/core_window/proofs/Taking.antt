@@ -1,6 +1,6 @@
 -- A Read is taken out of those that wait, which are in the order of their numbers.
 use Rattle.std.proofs.Common.{get_or, set, ◌≡◌, ℕ, ◌+◌, ◌<◌, Bool, true, false, cond, not, eqb, List, [], ◌∷◌, ◌++◌, length, drop, Some, None, refl, sym, ap, ap₂, subst, ◌∙◌, arith, append_assoc}
-use Rattle.std.specs.Prelude.{filter, find, ◌-◌, ◌≤◌, take}
+use Rattle.std.specs.Prelude.{filter, find, ◌-◌, take}
 use Rattle.std.specs.List.{AllByRecursion as Each, copy_within}
 use Rattle.std.proofs.Math.Seq.{drop-append_seam, get_or-append_seam, set-append_seam}
 use Rattle.std.proofs.lemmas.Bool.{ne_eqb, eq-eqb, eqb-true}

@@ -6,6 +6,7 @@ pub mod Fit
 pub mod Inside
 pub mod OneCycle
 pub mod Ahead
+pub mod Arriving
 pub mod Causes
 pub mod CoreViews
 pub mod Replies

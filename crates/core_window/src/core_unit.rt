@@ -9,6 +9,7 @@ ghost use Rattle.sim_base.specs.declared.trace.Entry.{Entry};
 ghost use Rattle.address_map.specs.Shifts.{IsDigits};
 ghost use Rattle.statistics.specs.declared.final_state.Credits.{Credits};
 ghost use Rattle.core_window.specs.Ahead.{IsPlaced, IsKnown};
+ghost use Rattle.core_window.specs.Arriving.{IsByAge, all_arriving};
 ghost use Rattle.core_window.specs.OneCycle.{lacks_by, IsSeen};
 ghost use Rattle.core_window.specs.Fit.{CanRun, RunsOnto};
 ghost use Rattle.core_window.specs.Stands.{StandsFor};
@@ -29,7 +30,7 @@ use crate::issue::{
 };
 use crate::issue_effects::{RequestingCore, request_latencies, send, spend, wait_for};
 use crate::outstanding::OutstandingReads;
-use crate::receive::{add_credit_at, channel_of, count_reply};
+use crate::receive::{Arriving, add_credit_at, channel_of, count_reply};
 use crate::retire::{cause_where_full, is_next_done, is_stalled, retire_count};
 use address_map::digits::Digits;
 use cpu_trace::entries::MemoryEntry;
@@ -446,7 +447,7 @@ impl Core {
     /// holds. The only error is out of memory; what the core and the list hold is then not known.
     pub fn run(
         &mut self,
-        inbox: &[Message],
+        arriving: Arriving<'_>,
         from: Cycle,
         until: Cycle,
         sent: &mut Vec<Message>,
@@ -454,11 +455,13 @@ impl Core {
         requires at { self.old.cycle ≡ from }
         requires order { from ≤ until }
         requires early { until < 2 ^ 62 }
-        requires fit { CanRun (view_of self.old) from until inbox.now }
-        ensures { OnOk result (RunsOnto (view_of self.old) from until inbox.now
+        requires by_age { IsByAge arriving.credits.now }
+        requires fit { CanRun (view_of self.old) from until (all_arriving arriving) }
+        ensures { OnOk result (RunsOnto (view_of self.old) from until (all_arriving arriving.entry)
             (view_of self.new) sent.old.items sent.new.items) }
     {
-        for message in inbox {
+        let mut rest = arriving;
+        'messages: while let Some(message) = rest.next() {
             self.advance(message.arrival, sent)?;
             self.receive(*message);
         }

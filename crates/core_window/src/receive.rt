@@ -1,13 +1,48 @@
-//! What a message changes.
+//! What arrives at a core, and what it changes.
 
-ghost use Rattle.std.specs.Prelude.{◌≡◌, ◌+◌, ◌/◌, ◌%◌, ◌<◌, ◌^◌, length};
+ghost use Rattle.std.specs.Prelude.{◌≡◌, ◌+◌, ◌/◌, ◌%◌, ◌<◌, ◌^◌, [], ◌∷◌, length, IfSome, IsNone};
+ghost use Rattle.core_window.specs.Arriving.{IsByAge, all_arriving};
 ghost use Rattle.core_window.specs.Counting.{counted_reply, HasRoom, IsCreditedAt};
 ghost use Rattle.core_window.specs.OneCycle.{more_credit, less_credit};
 
 use sim_base::config::Config;
-use sim_base::message::{Access, LinkId};
+use sim_base::message::{Access, LinkId, Message};
 use statistics::cores::CoreStats;
 use statistics::final_state::Credits;
+
+/// What arrives at a core: replies and credits, each by age.
+#[derive(Clone, Copy)]
+pub struct Arriving<'a> {
+    pub replies: &'a [Message],
+    pub credits: &'a [Message],
+}
+
+impl<'a> Arriving<'a> {
+    /// Takes the next message by age, if there is one.
+    #[inline(always)]
+    pub(crate) fn next(&mut self) -> Option<&'a Message>
+        requires { IsByAge self.old.credits.now }
+        ensures some { IfSome result (λ m. all_arriving self.old ≡ m.now ∷ all_arriving self.new) }
+        ensures none { IsNone result → all_arriving self.old ≡ [] }
+        ensures by_age { IsByAge self.new.credits.now }
+    {
+        match (self.replies, self.credits) {
+            ([reply, ..], [credit, later @ ..]) if credit.is_before(reply) => {
+                self.credits = later;
+                Some(credit)
+            }
+            ([reply, later @ ..], _) => {
+                self.replies = later;
+                Some(reply)
+            }
+            ([], [credit, later @ ..]) => {
+                self.credits = later;
+                Some(credit)
+            }
+            ([], []) => None,
+        }
+    }
+}
 
 /// The channel of a link.
 #[inline(always)]

@@ -51,14 +51,14 @@ fn channels_turn(
         there: at.cores_at,
         until,
     };
-    traffic.lists.sent.clear();
+    traffic.sent.clear();
     go_on(machine, traffic, &mut kinds.channels, &span)?;
     take_up(
         &machine.config,
         &mut traffic.links,
         kinds.cores.first,
         &mut kinds.cores.words,
-        &mut traffic.lists.sent,
+        &mut traffic.sent,
     )?;
     Ok(())
 }
@@ -84,14 +84,14 @@ fn cores_turn(
         there: at.channels_at,
         until,
     };
-    traffic.lists.sent.clear();
+    traffic.sent.clear();
     go_on(machine, traffic, &mut kinds.cores, &span)?;
     take_up(
         &machine.config,
         &mut traffic.links,
         kinds.channels.first,
         &mut kinds.channels.words,
-        &mut traffic.lists.sent,
+        &mut traffic.sent,
     )?;
     Ok(())
 }

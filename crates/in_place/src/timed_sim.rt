@@ -8,12 +8,11 @@ ghost use Rattle.units.specs.Wakes.{AreTimedUnits, WaitAll};
 ghost use Rattle.in_place.specs.Turns.{AreByKind, all_units, all_words};
 
 use crate::taking_turns::{UnitsByKind, run_to};
-use sim_base::message::Cycle;
+use sim_base::message::{Cycle, Message};
 use std::alloc::{AllocError, Global};
 use std::marker::Model;
 use std::sync::Arc;
 use units::machine::Machine;
-use units::message_lists::MessageLists;
 use units::part::UnitState;
 use units::sim::Sim;
 use units::timed_unit::Traffic;
@@ -73,7 +72,7 @@ fn by_kind(
 fn brought_up(
     alloc: Global,
     machine: &Machine,
-    lists: &mut MessageLists,
+    sent: &mut Vec<Message>,
     kinds: UnitsByKind,
     now: Cycle,
 ) -> Result<Vec<UnitState>, AllocError>
@@ -87,8 +86,8 @@ fn brought_up(
 {
     let UnitsByKind { cores, channels } = kinds;
     let mut parts = Vec::with_capacity(alloc, cores.units.len() + channels.units.len())?;
-    bring_up(machine, lists, cores, now, &mut parts)?;
-    bring_up(machine, lists, channels, now, &mut parts)?;
+    bring_up(machine, sent, cores, now, &mut parts)?;
+    bring_up(machine, sent, channels, now, &mut parts)?;
     Ok(parts)
 }
 
@@ -106,13 +105,15 @@ impl TimedSim {
             links,
         } = sim;
         let kinds = by_kind(alloc, &machine, parts, now)?;
-        let lists = MessageLists::new(alloc);
         Ok(TimedSim {
             machine,
             now,
             phase,
             kinds,
-            traffic: Traffic { links, lists },
+            traffic: Traffic {
+                links,
+                sent: Vec::new(alloc),
+            },
         })
     }
 
@@ -128,8 +129,8 @@ impl TimedSim {
             kinds,
             traffic,
         } = self;
-        let Traffic { links, mut lists } = traffic;
-        let parts = brought_up(alloc, &machine, &mut lists, kinds, now)?;
+        let Traffic { links, mut sent } = traffic;
+        let parts = brought_up(alloc, &machine, &mut sent, kinds, now)?;
         Ok(Sim {
             machine,
             now,

@@ -7,7 +7,6 @@ pub mod Room
 pub mod Counted
 pub mod Next
 pub mod Merging
-pub mod Heads
 pub mod Due
 pub mod Overrides
 pub mod Shortest

@@ -5,12 +5,11 @@ use Rattle.std.specs.List.{AllByRecursion as Each}
 use Rattle.std.proofs.lemmas.Bool.{cond-true, cond-false, cases_lt, lt-ltb, true≢false}
 use Rattle.std.proofs.lemmas.Bool.Decides.{nat_tests}
 use Rattle.std.proofs.lemmas.List.{map-append, drop_more, drop_all, take-append-drop}
-use Rattle.circular_buffer.specs.Buffer.{Buffer}
 use Rattle.sim_base.specs.History.{is_before, insert_by_age, by_age}
 use Rattle.sim_base.specs.declared.message.Message.{Message}
 use Rattle.sim_base.proofs.Arrived.{put, puts, by_age-puts, fold-puts}
 use Rattle.sim_base.proofs.Ordered.{Each-weaker, Sorted, puts-append, Sorted-put}
-use Rattle.links.specs.Rings.{contents, joined}
+use Rattle.links.specs.Buffers.{Buffered, contents, joined}
 use Rattle.links.proofs.Ages.{in_order-Sorted, by_age-nil, by_age-same, puts-put_first}
 
 puts-head : (x : Message) (acc ys : List Message) → Each (λ (y : Message). is_before y x ≡ false) ys → puts (x ∷ acc) ys ≡ x ∷ puts acc ys
@@ -125,37 +124,37 @@ Merges-end i j xs ys done h b = by (cases_lt i (length xs)) (cases_lt j (length 
         ∙ ap (λ z. done ++ fold insert_by_age (drop i xs) z) (sym none)
         ∙ h.merged
 
--- ---- the rings
+-- ---- the buffers
 pub joined-append : (xs ys : List (List Message)) → joined (xs ++ ys) ≡ joined xs ++ joined ys
 joined-append [] ys = refl
 joined-append (x ∷ xs) ys = ap (λ z. x ++ z) (joined-append xs ys) ∙ sym (append_assoc x (joined xs) (joined ys))
 
--- the messages of two lots of rings
-pub messages_of_both : (xs ys : List (Buffer Message)) → fold insert_by_age (by_age (joined (contents xs))) (by_age (joined (contents ys))) ≡ by_age (joined (contents (xs ++ ys)))
+-- the messages of two lots of buffers
+pub messages_of_both : (xs ys : List Buffered) → fold insert_by_age (by_age (joined (contents xs))) (by_age (joined (contents ys))) ≡ by_age (joined (contents (xs ++ ys)))
 messages_of_both xs ys =
     by_age-merge (joined (contents xs)) (joined (contents ys))
-    ∙ ap by_age (sym (joined-append (contents xs) (contents ys)) ∙ ap joined (sym (map-append (λ (ring : Buffer Message). ring.items) xs ys)))
+    ∙ ap by_age (sym (joined-append (contents xs) (contents ys)) ∙ ap joined (sym (map-append (λ (buffer : Buffered). buffer.items) xs ys)))
 
-pub in_order-take : (i : ℕ) (rings : List (Buffer Message)) → Each (λ ms. by_age ms ≡ ms) (contents rings) → Each (λ ms. by_age ms ≡ ms) (contents (take i rings))
+pub in_order-take : (i : ℕ) (buffers : List Buffered) → Each (λ ms. by_age ms ≡ ms) (contents buffers) → Each (λ ms. by_age ms ≡ ms) (contents (take i buffers))
 in_order-take zero [] h = tt
 in_order-take (suc i) [] h = tt
-in_order-take zero (r ∷ rings) h = tt
-in_order-take (suc i) (r ∷ rings) h = (h.0, in_order-take i rings h.1)
+in_order-take zero (r ∷ buffers) h = tt
+in_order-take (suc i) (r ∷ buffers) h = (h.0, in_order-take i buffers h.1)
 
-pub in_order-drop : (i : ℕ) (rings : List (Buffer Message)) → Each (λ ms. by_age ms ≡ ms) (contents rings) → Each (λ ms. by_age ms ≡ ms) (contents (drop i rings))
+pub in_order-drop : (i : ℕ) (buffers : List Buffered) → Each (λ ms. by_age ms ≡ ms) (contents buffers) → Each (λ ms. by_age ms ≡ ms) (contents (drop i buffers))
 in_order-drop zero [] h = tt
 in_order-drop (suc i) [] h = tt
-in_order-drop zero (r ∷ rings) h = h
-in_order-drop (suc i) (r ∷ rings) h = in_order-drop i rings h.1
+in_order-drop zero (r ∷ buffers) h = h
+in_order-drop (suc i) (r ∷ buffers) h = in_order-drop i buffers h.1
 
--- the messages of both halves of the rings
-pub messages_of_halves : (i : ℕ) (xs ys : List Message) (a b rings : List (Buffer Message)) → a ≡ take i rings → b ≡ drop i rings → xs ≡ by_age (joined (contents a)) → ys ≡ by_age (joined (contents b))
-    → fold insert_by_age xs ys ≡ by_age (joined (contents rings))
-messages_of_halves i xs ys a b rings e f h k =
+-- the messages of both halves of the buffers
+pub messages_of_halves : (i : ℕ) (xs ys : List Message) (a b buffers : List Buffered) → a ≡ take i buffers → b ≡ drop i buffers → xs ≡ by_age (joined (contents a)) → ys ≡ by_age (joined (contents b))
+    → fold insert_by_age xs ys ≡ by_age (joined (contents buffers))
+messages_of_halves i xs ys a b buffers e f h k =
     ap₂ (λ x y. fold insert_by_age x y) h k
     ∙ messages_of_both a b
-    ∙ ap (λ z. by_age (joined (contents z))) (ap₂ (λ x y. x ++ y) e f ∙ take-append-drop i rings)
+    ∙ ap (λ z. by_age (joined (contents z))) (ap₂ (λ x y. x ++ y) e f ∙ take-append-drop i buffers)
 
-pub messages_of_none : (rings : List (Buffer Message)) → length rings < 1 → [] ≡ by_age (joined (contents rings))
+pub messages_of_none : (buffers : List Buffered) → length buffers < 1 → [] ≡ by_age (joined (contents buffers))
 messages_of_none [] l = sym by_age-nil
-messages_of_none (r ∷ rings) l = absurd (omega arith)
+messages_of_none (r ∷ buffers) l = absurd (omega arith)

@@ -1,4 +1,4 @@
--- The least arrival, ring by ring.
+-- The least arrival, buffer by buffer.
 use Rattle.std.proofs.Common.{ℕ, ◌+◌, ◌<◌, ◌≤◌, ◌≡◌, Bool, true, false, ◌&&◌, ◌||◌, eqb, min, List, [], ◌∷◌, ◌++◌, length, append_assoc, Option, Some, None, refl, sym, ap, ◌∙◌, subst, inl, inr, ◌⊎◌, arith}
 use Rattle.std.specs.Prelude.{All, Any, fold}
 use Rattle.std.specs.Option.{option_map_or, IfSome, IsSomeAnd, IsNone}
@@ -7,13 +7,12 @@ use Rattle.std.proofs.lemmas.Bool.{cond_both, eqb-true, eq-eqb, cases_lt, both_w
 use Rattle.std.proofs.lemmas.List.Elements.{All-from_recursion}
 use Rattle.std.proofs.lemmas.List.Folds.{Any-from_list_any}
 use Rattle.std.proofs.Math.Bool.{or-false, or_comm, or_assoc}
-use Rattle.circular_buffer.specs.Buffer.{Buffer}
 use Rattle.sim_base.specs.History.{is_before, by_age}
 use Rattle.sim_base.specs.declared.message.Message.{Message}
 use Rattle.sim_base.proofs.Arrived.{put, puts, by_age-puts, Each-by_age, not_before_le}
 use Rattle.sim_base.proofs.Each.{Each-append}
 use Rattle.sim_base.proofs.Ordered.{Each-weaker, Sorted}
-use Rattle.links.specs.Rings.{contents, joined, earlier_arrival, AreRings}
+use Rattle.links.specs.Buffers.{Buffered, contents, joined, earlier_arrival, AreBuffers}
 use Rattle.links.proofs.Ages.{in_order-Sorted, by_age-nil}
 
 -- some message arrives in this cycle
@@ -76,15 +75,15 @@ empty_where_none None [] h e = by_age-puts []
 empty_where_none None (m ∷ ms) h e = absurd h.0
 empty_where_none (Some a) ms h e = absurd (true≢false e)
 
--- ---- ring by ring
+-- ---- buffer by buffer
 abbrev earliest_of : Option ℕ → List (List Message) → Option ℕ
-earliest_of least rings = fold earlier_arrival least rings
+earliest_of least buffers = fold earlier_arrival least buffers
 
 bound_kept : (least : Option ℕ) (bound : ℕ) (ms : List Message) → IsSomeAnd least (λ a. a ≤ bound) → IsSomeAnd (earlier_arrival least ms) (λ a. a ≤ bound)
 bound_kept least bound [] h = h
 bound_kept least bound (m ∷ ms) h = lesser least m.arrival bound h
 
-bound_stays : (least : Option ℕ) (bound : ℕ) (rings : List (List Message)) → IsSomeAnd least (λ a. a ≤ bound) → IsSomeAnd (earliest_of least rings) (λ a. a ≤ bound)
+bound_stays : (least : Option ℕ) (bound : ℕ) (buffers : List (List Message)) → IsSomeAnd least (λ a. a ≤ bound) → IsSomeAnd (earliest_of least buffers) (λ a. a ≤ bound)
 bound_stays least bound [] h = h
 bound_stays least bound (ms ∷ rest) h = bound_stays (earlier_arrival least ms) bound rest (bound_kept least bound ms h)
 
@@ -96,7 +95,7 @@ first_bounds least (m ∷ ms) s = (
       (λ y h. lesser_last least m.arrival y.arrival (not_before_le y m h)) ms s.0,
 )
 
-reached : (ch first : ℕ) (least : Option ℕ) (rings : List (List Message)) → AreRings ch first rings → Each (λ (m : Message). IsSomeAnd (earliest_of least rings) (λ a. a ≤ m.arrival)) (joined rings)
+reached : (ch first : ℕ) (least : Option ℕ) (buffers : List (List Message)) → AreBuffers ch first buffers → Each (λ (m : Message). IsSomeAnd (earliest_of least buffers) (λ a. a ≤ m.arrival)) (joined buffers)
 reached ch first least [] h = tt
 reached ch first least (ms ∷ rest) h =
     Each-append (λ (m : Message). IsSomeAnd (earliest_of (earlier_arrival least ms) rest) (λ a. a ≤ m.arrival)) ms (joined rest)
@@ -125,48 +124,48 @@ sooner_arrives least xs [] h = IsArrival-more least xs [] h
 sooner_arrives least xs (m ∷ ms) h =
     arrival_more least m.arrival (xs ++ m ∷ ms) (IsArrival-more least xs (m ∷ ms) h) (list_any-here (λ (y : Message). eqb y.arrival m.arrival) xs m ms (eq-eqb m.arrival m.arrival refl))
 
-earliest_arrives : (least : Option ℕ) (xs : List Message) (rings : List (List Message)) → IsArrival least xs → IsArrival (earliest_of least rings) (xs ++ joined rings)
+earliest_arrives : (least : Option ℕ) (xs : List Message) (buffers : List (List Message)) → IsArrival least xs → IsArrival (earliest_of least buffers) (xs ++ joined buffers)
 earliest_arrives least xs [] h = IsArrival-more least xs [] h
 earliest_arrives least xs (ms ∷ rest) h =
     subst (IsArrival (earliest_of least (ms ∷ rest))) (append_assoc xs ms (joined rest)) (earliest_arrives (earlier_arrival least ms) (xs ++ ms) rest (sooner_arrives least xs ms h))
 
--- the rings in the words of the code
-pub fold-contents : (least : Option ℕ) (rings : List (Buffer Message)) → fold (λ least ring. earlier_arrival least ring.items) least rings ≡ fold earlier_arrival least (contents rings)
+-- the buffers in the words of the code
+pub fold-contents : (least : Option ℕ) (buffers : List Buffered) → fold (λ least buffer. earlier_arrival least buffer.items) least buffers ≡ fold earlier_arrival least (contents buffers)
 fold-contents least [] = refl
-fold-contents least (r ∷ rings) = fold-contents (earlier_arrival least r.items) rings
+fold-contents least (r ∷ buffers) = fold-contents (earlier_arrival least r.items) buffers
 
-pub earliest_bounds : (ch : ℕ) (rings : List (List Message)) → AreRings ch 0 rings → Each (λ (m : Message). IsSomeAnd (fold earlier_arrival None rings) (λ a. a ≤ m.arrival)) (joined rings)
-earliest_bounds ch rings h = reached ch 0 None rings h
+pub earliest_bounds : (ch : ℕ) (buffers : List (List Message)) → AreBuffers ch 0 buffers → Each (λ (m : Message). IsSomeAnd (fold earlier_arrival None buffers) (λ a. a ≤ m.arrival)) (joined buffers)
+earliest_bounds ch buffers h = reached ch 0 None buffers h
 
-pub earliest_is : (rings : List (List Message)) → IsArrival (fold earlier_arrival None rings) (joined rings)
-earliest_is rings = earliest_arrives None [] rings tt
+pub earliest_is : (buffers : List (List Message)) → IsArrival (fold earlier_arrival None buffers) (joined buffers)
+earliest_is buffers = earliest_arrives None [] buffers tt
 
--- nothing stands in any ring where nothing is in flight, and only there
+-- nothing stands in any buffer where nothing is in flight, and only there
 pub by_age-empty : (ms : List Message) → by_age ms ≡ [] → ms ≡ []
 by_age-empty [] h = refl
 by_age-empty (m ∷ ms) h =
     let p = λ (y : Message). true in
     absurd (true≢false (sym (list_any-by_age p (m ∷ ms)) ∙ ap (list_any p) h))
 
-empty_rings : (rings : List (Buffer Message)) → list_all (λ (ring : Buffer Message). eqb (length ring.items) 0) rings ≡ true → joined (contents rings) ≡ []
-empty_rings [] h = refl
-empty_rings (r ∷ rings) h = by r.items (and_parts (eqb (length r.items) 0) _ h).0 (empty_rings rings (and_parts (eqb (length r.items) 0) _ h).1)
+empty_buffers : (buffers : List Buffered) → list_all (λ (buffer : Buffered). eqb (length buffer.items) 0) buffers ≡ true → joined (contents buffers) ≡ []
+empty_buffers [] h = refl
+empty_buffers (r ∷ buffers) h = by r.items (and_parts (eqb (length r.items) 0) _ h).0 (empty_buffers buffers (and_parts (eqb (length r.items) 0) _ h).1)
   where
-    by : (ms : List Message) → eqb (length ms) 0 ≡ true → joined (contents rings) ≡ [] → ms ++ joined (contents rings) ≡ []
+    by : (ms : List Message) → eqb (length ms) 0 ≡ true → joined (contents buffers) ≡ [] → ms ++ joined (contents buffers) ≡ []
     by [] e rest = rest
     by (m ∷ ms) e rest = absurd (omega (arith, eqb-true (length (m ∷ ms)) 0 e))
 
-rings_empty : (rings : List (Buffer Message)) → joined (contents rings) ≡ [] → list_all (λ (ring : Buffer Message). eqb (length ring.items) 0) rings ≡ true
-rings_empty [] h = refl
-rings_empty (r ∷ rings) h = by r.items h (rings_empty rings)
+buffers_empty : (buffers : List Buffered) → joined (contents buffers) ≡ [] → list_all (λ (buffer : Buffered). eqb (length buffer.items) 0) buffers ≡ true
+buffers_empty [] h = refl
+buffers_empty (r ∷ buffers) h = by r.items h (buffers_empty buffers)
   where
-    by : (ms : List Message) → ms ++ joined (contents rings) ≡ [] → (joined (contents rings) ≡ [] → list_all (λ (ring : Buffer Message). eqb (length ring.items) 0) rings ≡ true)
-        → (eqb (length ms) 0 && list_all (λ (ring : Buffer Message). eqb (length ring.items) 0) rings) ≡ true
+    by : (ms : List Message) → ms ++ joined (contents buffers) ≡ [] → (joined (contents buffers) ≡ [] → list_all (λ (buffer : Buffered). eqb (length buffer.items) 0) buffers ≡ true)
+        → (eqb (length ms) 0 && list_all (λ (buffer : Buffered). eqb (length buffer.items) 0) buffers) ≡ true
     by [] e rest = rest e
     by (m ∷ ms) e rest = cc
 
-pub empty_from_none : (rings : List (Buffer Message)) → list_all (λ (ring : Buffer Message). eqb (length ring.items) 0) rings ≡ true → by_age (joined (contents rings)) ≡ []
-empty_from_none rings h = ap by_age (empty_rings rings h) ∙ by_age-nil
+pub empty_from_none : (buffers : List Buffered) → list_all (λ (buffer : Buffered). eqb (length buffer.items) 0) buffers ≡ true → by_age (joined (contents buffers)) ≡ []
+empty_from_none buffers h = ap by_age (empty_buffers buffers h) ∙ by_age-nil
 
-pub none_from_empty : (rings : List (Buffer Message)) → by_age (joined (contents rings)) ≡ [] → list_all (λ (ring : Buffer Message). eqb (length ring.items) 0) rings ≡ true
-none_from_empty rings h = rings_empty rings (by_age-empty (joined (contents rings)) h)
+pub none_from_empty : (buffers : List Buffered) → by_age (joined (contents buffers)) ≡ [] → list_all (λ (buffer : Buffered). eqb (length buffer.items) 0) buffers ≡ true
+none_from_empty buffers h = buffers_empty buffers (by_age-empty (joined (contents buffers)) h)

@@ -1,17 +1,19 @@
--- The steps of the loops over one ring.
-use Rattle.std.proofs.Common.{ℕ, suc, zero, ◌+◌, ◌-◌, ◌<◌, ◌≤◌, ◌≡◌, Bool, true, false, not, ltb, get_or, set, length, length-set, drop, List, [], ◌∷◌, ◌++◌, Some, refl, sym, ap, ◌∙◌, subst, arith}
+-- The steps of the loops over one buffer.
+use Rattle.std.proofs.Common.{ℕ, suc, zero, ◌+◌, ◌-◌, ◌<◌, ◌≤◌, ◌≡◌, Bool, true, false, not, ltb, get_or, set, length, length-set, take, drop, List, [], ◌∷◌, ◌++◌, append-nil, Some, refl, sym, ap, ◌∙◌, subst, arith}
 use Rattle.std.specs.Prelude.{filter, insert, slice_get}
 use Rattle.std.specs.Option.{option_map_or}
 use Rattle.std.specs.List.{take_while, AllByRecursion as Each}
-use Rattle.std.proofs.lemmas.Bool.{cond-true, cond-false, le-ltb, ltb-false}
-use Rattle.std.proofs.lemmas.List.{get_or_default, get_or-set_other, set-set, length_push}
+use Rattle.std.proofs.lemmas.Bool.{cond-true, cond-false, le-ltb, ltb-false, true≢false}
+use Rattle.std.proofs.lemmas.Option.{slice_get-get_or}
+use Rattle.std.proofs.Math.Seq.{drop-append_seam}
+use Rattle.std.proofs.lemmas.List.{get_or_default, get_or-set_other, set-set, length_push, drop-append-le, get_or-drop, length-append, length-drop, length-take-le, take_all, drop_all}
 use Rattle.std.proofs.lemmas.List.Sums.{take_while-cons}
 use Rattle.sim_base.specs.History.{is_before, insert_by_age, by_age}
 use Rattle.sim_base.specs.declared.message.Message.{Message}
 use Rattle.sim_base.proofs.Arrived.{put, fold-puts, not_before_le}
 use Rattle.sim_base.proofs.Ordered.{Each-weaker, Sorted}
 use Rattle.links.specs.InFlight.{arrives_before}
-use Rattle.links.specs.Rings.{arrives_later, is_younger_last, IsInserted}
+use Rattle.links.specs.Buffers.{arrives_later, is_younger_last, IsInserted}
 use Rattle.links.proofs.Ages.{in_order-Sorted}
 use Rattle.links.proofs.Merging.{after_both}
 
@@ -182,6 +184,21 @@ inserted_among m y old pushed new s at young e h = h old y s e at (subst (λ o. 
 pub stands_twice : (y : Message) (old pushed : List Message) → slice_get old (length old - 1) ≡ Some y → pushed ≡ old ++ y ∷ [] → 2 ≤ length pushed
 stands_twice y old pushed at e = omega (arith, (got y y (length old - 1) old at).0, ap length e, length_push old y)
 
+-- what stands from a place on, once it was written
+pub rest_written : (free len : ℕ) (old new items : List Message) → free ≤ length old → length new ≡ length old - free → len ≡ length old → length items ≡ len
+    → drop free (take len ((take free old ++ (new ++ drop (length old - free) (drop free old))) ++ drop (length (take free old ++ (new ++ drop (length old - free) (drop free old)))) items)) ≡ new
+rest_written free len old new items l n e k =
+    let none : drop (length old - free) (drop free old) ≡ [] = drop_all (length old - free) (drop free old) (omega (arith, length-drop free old)) in
+    let same : take free old ++ (new ++ drop (length old - free) (drop free old)) ≡ take free old ++ new = ap (λ z. take free old ++ (new ++ z)) none ∙ ap (λ z. take free old ++ z) (append-nil new) in
+    let front : length (take free old) ≡ free = length-take-le free old l in
+    let long : length (take free old ++ new) ≡ len = length-append (take free old) new ∙ omega (arith, front, n, e, l) in
+    ap (λ all. drop free (take len (all ++ drop (length all) items))) same
+    ∙ ap (λ z. drop free (take len ((take free old ++ new) ++ z))) (drop_all (length (take free old ++ new)) items (omega (arith, long, k)))
+    ∙ ap (λ z. drop free (take len z)) (append-nil (take free old ++ new))
+    ∙ ap (drop free) (take_all len (take free old ++ new) (omega (arith, long)))
+    ∙ ap (λ i. drop i (take free old ++ new)) (sym front)
+    ∙ drop-append_seam (take free old) new
+
 last_not_younger : (m : Message) (q : ℕ) (xs : List Message) → q < length xs → option_map_or (is_before m) (slice_get xs q) false ≡ false → is_before m (get_or (xs ++ m ∷ []) q m) ≡ false
 last_not_younger m q [] l h = absurd (omega arith)
 last_not_younger m zero (x ∷ xs) l h = h
@@ -240,3 +257,47 @@ pub head_due : (until : ℕ) (ms : List Message) → by_age ms ≡ ms
     → (take_while (arrives_before until) ms ≡ filter (arrives_before until) ms)
     × (drop (length (take_while (arrives_before until) ms)) ms ≡ filter (arrives_later until) ms)
 head_due until ms s = due_at_head until ms (in_order-Sorted ms s)
+
+-- ---- behind places that are free
+-- a message is put behind others
+pub put_last : (free : ℕ) (m : Message) (ms places pushed : List Message) → free ≤ length places → ms ≡ drop free places → pushed ≡ places ++ m ∷ [] → by_age ms ≡ ms → is_younger_last m ms ≡ false
+    → drop free pushed ≡ insert_by_age ms m
+put_last free m ms places pushed l e f s young =
+    ap (drop free) f ∙ drop-append-le free places (m ∷ []) l ∙ ap (λ z. z ++ m ∷ []) (sym e) ∙ placed_last m ms s young
+
+-- the last of some messages is put behind them once more
+pub put_twice : (free : ℕ) (y : Message) (ms places pushed : List Message) → free ≤ length places → ms ≡ drop free places → pushed ≡ places ++ y ∷ [] → drop free pushed ≡ ms ++ y ∷ []
+put_twice free y ms places pushed l e f = ap (drop free) f ∙ drop-append-le free places (y ∷ []) l ∙ ap (λ z. z ++ y ∷ []) (sym e)
+
+-- the last of what stands behind the free places, if a message goes before it
+pub last_of : (m d : Message) (free : ℕ) (ms places : List Message) → free ≤ length places → ms ≡ drop free places → is_younger_last m ms ≡ true
+    → (free < length places) × (slice_get ms (length ms - 1) ≡ Some (get_or places (length places - 1) d))
+last_of m d free ms places l e young = by ms e young (length-drop free places)
+  where
+    none_last : (m : Message) → is_younger_last m [] ≡ true → ⊥
+    none_last m h = absurd (true≢false (sym h))
+
+    by : (zs : List Message) → zs ≡ drop free places → is_younger_last m zs ≡ true → length (drop free places) ≡ length places - free
+        → (free < length places) × (slice_get zs (length zs - 1) ≡ Some (get_or places (length places - 1) d))
+    by [] f h k = absurd (none_last m h)
+    by (z ∷ zs) f h k =
+        let some : free < length places = omega (arith, ap length f, k) in
+        let at : length (z ∷ zs) - 1 < length (z ∷ zs) = omega arith in
+        let place : free + (length (z ∷ zs) - 1) ≡ length places - 1 = omega (arith, ap length f, k) in
+        (some, slice_get-get_or (z ∷ zs) (length (z ∷ zs) - 1) d at ∙ ap Some (ap (λ l. get_or l (length (z ∷ zs) - 1) d) f ∙ get_or-drop free places (length (z ∷ zs) - 1) d ∙ ap (λ i. get_or places i d) place))
+
+-- the last of some messages is put behind them once more, and then a message among them
+pub put_in : (m y : Message) (free len : ℕ) (ms places pushed written new : List Message) → free ≤ length places → ms ≡ drop free places → by_age ms ≡ ms → is_younger_last m ms ≡ true
+    → y ≡ get_or places (length places - 1) y → pushed ≡ places ++ y ∷ [] → written ≡ pushed → len ≡ length written
+    → length new ≡ length (take (length written - free) (drop free written)) → IsInserted m (take (length written - free) (drop free written)) new
+    → drop free (take len ((take free written ++ (new ++ drop (length written - free) (drop free written)))
+    ++ drop (length (take free written ++ (new ++ drop (length written - free) (drop free written)))) pushed))
+    ≡ insert_by_age ms m
+put_in m y free len ms places pushed written new l e s young at f g k same h =
+    let long : length pushed ≡ length places + 1 = ap length f ∙ length_push places y in
+    let longer : length written ≡ length places + 1 = ap length g ∙ long in
+    let whole : take (length written - free) (drop free written) ≡ drop free written = take_all (length written - free) (drop free written) (omega (arith, length-drop free written)) in
+    let twice : take (length written - free) (drop free written) ≡ ms ++ y ∷ [] = whole ∙ put_twice free y ms places written l e (g ∙ f) in
+    let last = last_of m y free ms places l e young in
+    rest_written free len written new pushed (omega (arith, l, longer)) (same ∙ ap length whole ∙ length-drop free written) k (omega (arith, k, long, longer))
+    ∙ inserted_among m y ms _ new s (last.1 ∙ ap Some (sym at)) young twice h

@@ -1,3 +1,3 @@
 pub mod InFlight
-pub mod Rings
+pub mod Buffers
 pub mod Latencies

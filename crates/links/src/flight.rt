@@ -1,24 +1,25 @@
 //! The messages in flight.
 
-ghost use Rattle.std.specs.Prelude.{◌≡◌, ◌+◌, ◌<◌, ◌^◌, ◌≤◌, nat_lt, [], ◌∷◌, length, fold, ◌==◌, true, false, ◌↔◌, IsTrue, IsNone, IfSome, IfOk, OnOk, OnErr, IsOkAnd};
+ghost use Rattle.std.specs.Prelude.{◌≡◌, ◌+◌, ◌<◌, ◌^◌, ◌≤◌, nat_lt, [], ◌∷◌, length, drop, slice_set, fold, ◌==◌, true, false, ◌↔◌, IsTrue, IsNone, IfSome, IfOk, OnOk, OnErr, IsOkAnd};
+ghost use Rattle.sim_base.specs.History.{insert_by_age};
+ghost use Rattle.sim_base.specs.declared.message.Unit.{Unit as MachineUnit};
 ghost use Rattle.std.specs.List.{list_all, list_any};
 ghost use Rattle.std.specs.List.Sorted.{IsPermutation};
 ghost use Rattle.links.specs.InFlight.{nothing_in_flight, with_sent, due_before, without_due, in_flight_to, first_arrival, NoneArrivesBefore, SomeAt};
-ghost use Rattle.links.specs.Rings.{ring_of, ring_if_any, contents, ring_messages, ring_messages_at, IsByAge, earlier_arrival, due_in, due_in_both, left_in, left_both, AreRings, HasRoom, HaveRoomForAll, AreNumbers, HasRingNumbers, AreCounts, IsOneMore, HaveCountedRoom, CanTakeUp, HoldSame, HaveGained, JoinAlike, Grows};
+ghost use Rattle.links.specs.Buffers.{buffer_of, number_of_replies, in_buffer, due_in_buffer, without_due_in, replies_due, credits_due, contents, buffer_messages, buffer_messages_at, IsByAge, earlier_arrival, due_in, AreBuffers, HasRoom, HaveRoomForAll, AreNumbers, HasBufferNumbers, AreCounts, IsOneMore, HaveCountedRoom, CanTakeUp, HoldSame, HaveGained, JoinAlike, Grows};
 
-use crate::merge::{copy_heads, messages_of};
-use crate::rings::{Ring, drop_first, first_arrival, make_room, put_by_age, take_before};
-use circular_buffer::HeapCircularBuffer;
+use crate::buffers::Buffer;
+use crate::merge::messages_of;
 use sim_base::config::Config;
-use sim_base::message::{Cycle, LinkId, Message, Unit, earlier};
+use sim_base::message::{ChannelId, CoreId, Cycle, LinkId, Message, earlier};
 use std::alloc::{AllocError, Global};
 use std::marker::Model;
 
-/// Up to this many messages are put into a ring in the order in which they come; more are worth a sort, since each goes
-/// before those of them that arrive later. Where there are more in all, those that go to each ring are counted.
+/// Up to this many messages are put into a buffer in the order in which they come; more are worth a sort, since each
+/// goes before those of them that arrive later. Where there are more in all, those that go to each buffer are counted.
 const FEW_MESSAGES: usize = 64;
 
-/// The numbers of the rings are kept for at most this many links.
+/// The numbers of the buffers are kept for at most this many links.
 const MOST_NUMBERS: u64 = 16_384;
 
 /// The messages in flight on the links of a machine.
@@ -29,31 +30,31 @@ const MOST_NUMBERS: u64 = 16_384;
 pub struct Links {
     alloc: Global,
     channels: u16,
-    /// The number of the ring of each of the first links: to look it up takes less time than to compute it.
+    /// The number of the buffer of each of the first links: to look it up takes less time than to compute it.
     numbers: Vec<usize>,
-    /// A ring for each channel and then two for each core, of replies and of credits, as far as messages have been
-    /// sent to them. A core's credits overtake replies in flight; in rings of their own nearly every message joins at
+    /// A buffer for each channel and then two for each core, of replies and of credits, as far as messages have been
+    /// sent to them. A core's credits overtake replies in flight; in buffers of their own nearly every message joins at
     /// the back.
-    rings: Vec<Ring>,
+    buffers: Vec<Buffer>,
 }
 
 impl Model for Links {
     ghost use Rattle.links.specs.InFlight.{InFlight};
-    ghost use Rattle.links.specs.Rings.{ring_messages, AreInRings};
+    ghost use Rattle.links.specs.Buffers.{buffer_messages, AreInBuffers};
 
     ghost Value = { InFlight };
 
-    ghost view = { λ l. record { channels = l.channels; messages = ring_messages l.rings.items } };
+    ghost view = { λ l. record { channels = l.channels; messages = buffer_messages l.buffers.items } };
 
-    ghost invariant = { λ l. AreInRings l.channels l.numbers.items l.rings.items };
+    ghost invariant = { λ l. AreInBuffers l.channels l.numbers.items l.buffers.items };
 }
 
-/// The number of the ring of a link's messages.
+/// The number of the buffer of a link's messages.
 #[cold]
 #[inline(never)]
-fn ring_of_link(channels: u16, link: LinkId) -> usize
+fn buffer_of_link(channels: u16, link: LinkId) -> usize
     requires { 0 < channels }
-    ensures number { result ≡ ring_of channels link }
+    ensures number { result ≡ buffer_of channels link }
     ensures small { result + 1 < 2 ^ 64 }
 {
     let pair = link / 3;
@@ -65,131 +66,126 @@ fn ring_of_link(channels: u16, link: LinkId) -> usize
     }
 }
 
-/// The numbers of the rings of the first `links` links, or of fewer where memory is refused.
+/// The numbers of the buffers of the first `links` links, or of fewer where memory is refused.
 fn numbers_of(alloc: Global, channels: u16, links: u64) -> Vec<usize>
     requires { 0 < channels }
     ensures { AreNumbers channels result.items }
 {
     let mut numbers = Vec::new(alloc);
     for link in 0..links {
-        if numbers.push(ring_of_link(channels, link)).is_err() {
+        if numbers.push(buffer_of_link(channels, link)).is_err() {
             return numbers;
         }
     }
     numbers
 }
 
-/// The number of the ring of a link's messages, by the numbers of the first links.
+/// The number of the buffer of a link's messages, by the numbers of the first links.
 fn number_of(numbers: &[usize], channels: u16, link: LinkId) -> usize
-    requires { HasRingNumbers channels numbers.now }
-    ensures number { result ≡ ring_of channels link }
+    requires { HasBufferNumbers channels numbers.now }
+    ensures number { result ≡ buffer_of channels link }
     ensures small { result + 1 < 2 ^ 64 }
 {
     match numbers.get(link as usize) {
         Some(number) => *number,
-        None => ring_of_link(channels, link),
+        None => buffer_of_link(channels, link),
     }
 }
 
-/// The number of a channel's ring, or of a core's ring of replies; none, where the machine has no such channel.
-fn ring_of_unit(channels: u16, unit: Unit) -> Option<usize>
-    ensures number { result ≡ ring_if_any channels unit }
-    ensures small { IfSome result (λ number. number + 1 < 2 ^ 64) }
+/// The number of a core's buffer of replies, behind which its buffer of credits stands.
+fn replies_number(channels: u16, core: CoreId) -> usize
+    ensures number { result ≡ number_of_replies channels core }
+    ensures small { result + 1 < 2 ^ 64 }
 {
-    match unit {
-        Unit::Channel(channel) if channel < u32::from(channels) => Some(channel as usize),
-        Unit::Channel(_) => None,
-        Unit::Core(core) => Some(usize::from(channels) + 2 * usize::from(core)),
-    }
+    usize::from(channels) + 2 * usize::from(core)
 }
 
-/// Makes rings until there are `count` of them.
-fn make_rings(alloc: Global, rings: &mut Vec<Ring>, count: usize) -> Result<(), AllocError>
-    ensures grows { Grows rings.old.items rings.new.items }
-    ensures count { OnOk result (count ≤ length rings.new.items) }
+/// Makes buffers until there are `count` of them.
+fn make_buffers(alloc: Global, buffers: &mut Vec<Buffer>, count: usize) -> Result<(), AllocError>
+    ensures grows { Grows buffers.old.items buffers.new.items }
+    ensures count { OnOk result (count ≤ length buffers.new.items) }
 {
-    while rings.len() < count {
-        rings.push(HeapCircularBuffer::with_capacity(alloc, 0)?)?;
+    while buffers.len() < count {
+        buffers.push(Buffer::new(alloc))?;
     }
     Ok(())
 }
 
-/// Whether a ring exists and has room for `more` further messages.
-fn has_room(rings: &[Ring], number: usize, more: usize) -> bool
-    ensures { IsTrue result → HasRoom rings.now number more }
+/// Whether a buffer exists and has room for `more` further messages.
+fn has_room(buffers: &[Buffer], number: usize, more: usize) -> bool
+    ensures { IsTrue result ↔ HasRoom buffers.now number more }
 {
-    match rings.get(number) {
-        Some(ring) => more <= ring.capacity() - ring.len(),
+    match buffers.get(number) {
+        Some(buffer) => buffer.has_room(more),
         None => false,
     }
 }
 
-/// Makes a ring if it does not exist, and room in it for `more` further messages.
+/// Makes a buffer if it does not exist, and room in it for `more` further messages.
 #[cold]
 #[inline(never)]
-fn make_ring_with_room(
+fn make_buffer_with_room(
     alloc: Global,
-    rings: &mut Vec<Ring>,
+    buffers: &mut Vec<Buffer>,
     number: usize,
     more: usize,
 ) -> Result<(), AllocError>
     requires { number + 1 < 2 ^ 64 }
-    ensures grows { Grows rings.old.items rings.new.items }
-    ensures room { OnOk result (HasRoom rings.new.items number more) }
+    ensures grows { Grows buffers.old.items buffers.new.items }
+    ensures room { OnOk result (HasRoom buffers.new.items number more) }
 {
-    make_rings(alloc, rings, number + 1)?;
-    make_room(&mut rings[number], more)?;
-    Ok(())
+    make_buffers(alloc, buffers, number + 1)?;
+    buffers[number].make_room(more)
 }
 
-/// Makes room in a ring for `more` further messages, where there is too little.
+/// Makes room in a buffer for `more` further messages, where there is too little.
 fn make_room_at(
     alloc: Global,
-    rings: &mut Vec<Ring>,
+    buffers: &mut Vec<Buffer>,
     number: usize,
     more: usize,
 ) -> Result<(), AllocError>
     requires { number + 1 < 2 ^ 64 }
-    ensures grows { Grows rings.old.items rings.new.items }
-    ensures room { OnOk result (HasRoom rings.new.items number more) }
+    ensures grows { Grows buffers.old.items buffers.new.items }
+    ensures room { OnOk result (HasRoom buffers.new.items number more) }
 {
-    if !has_room(rings, number, more) {
-        make_ring_with_room(alloc, rings, number, more)?;
+    if !has_room(buffers, number, more) {
+        make_buffer_with_room(alloc, buffers, number, more)?;
     }
     Ok(())
 }
 
-/// Whether there is room for all messages in each ring that one of them goes to.
-fn is_room_for(rings: &[Ring], numbers: &[usize], channels: u16, messages: &[Message]) -> bool
-    requires { HasRingNumbers channels numbers.now }
-    ensures { IsTrue result → HaveRoomForAll channels rings.now messages.now }
+/// Whether there is room for all messages in each buffer that one of them goes to.
+fn is_room_for(buffers: &[Buffer], numbers: &[usize], channels: u16, messages: &[Message]) -> bool
+    requires { HasBufferNumbers channels numbers.now }
+    ensures { IsTrue result → HaveRoomForAll channels buffers.now messages.now }
 {
     for message in messages {
         let number = number_of(numbers, channels, message.link);
-        if !has_room(rings, number, messages.len()) {
+        if !has_room(buffers, number, messages.len()) {
             return false;
         }
     }
     true
 }
 
-/// Makes room for all messages in each ring that one of them goes to.
+/// Makes room for all messages in each buffer that one of them goes to.
 #[cold]
 #[inline(never)]
 fn make_room_for_all(
     alloc: Global,
-    rings: &mut Vec<Ring>,
+    buffers: &mut Vec<Buffer>,
     numbers: &[usize],
     channels: u16,
     messages: &[Message],
 ) -> Result<(), AllocError>
-    requires { HasRingNumbers channels numbers.now }
-    ensures grows { Grows rings.old.items rings.new.items }
-    ensures room { OnOk result (HaveRoomForAll channels rings.new.items messages.now) }
+    requires { HasBufferNumbers channels numbers.now }
+    ensures grows { Grows buffers.old.items buffers.new.items }
+    ensures room { OnOk result (HaveRoomForAll channels buffers.new.items messages.now) }
 {
     for message in messages {
         let number = number_of(numbers, channels, message.link);
-        make_room_at(alloc, rings, number, messages.len())?;
+        make_room_at(alloc, buffers, number, messages.len())?;
     }
     Ok(())
 }
@@ -206,14 +202,14 @@ fn count_one(counts: &mut Vec<usize>, number: usize) -> Result<(), AllocError>
     Ok(())
 }
 
-/// How many messages go to each ring, by its number.
-fn count_by_ring(
+/// How many messages go to each buffer, by its number.
+fn count_by_buffer(
     alloc: Global,
     numbers: &[usize],
     channels: u16,
     messages: &[Message],
 ) -> Result<Vec<usize>, AllocError>
-    requires { HasRingNumbers channels numbers.now }
+    requires { HasBufferNumbers channels numbers.now }
     ensures { IfOk result (λ counts. AreCounts channels messages.now counts.items) }
 {
     let mut counts = Vec::new(alloc);
@@ -223,84 +219,84 @@ fn count_by_ring(
     Ok(counts)
 }
 
-/// Makes room in each ring for as many further messages as its count says.
+/// Makes room in each buffer for as many further messages as its count says.
 fn make_counted_room(
     alloc: Global,
-    rings: &mut Vec<Ring>,
+    buffers: &mut Vec<Buffer>,
     counts: &[usize],
 ) -> Result<(), AllocError>
-    ensures grows { Grows rings.old.items rings.new.items }
-    ensures room { OnOk result (HaveCountedRoom rings.new.items counts.now) }
+    ensures grows { Grows buffers.old.items buffers.new.items }
+    ensures room { OnOk result (HaveCountedRoom buffers.new.items counts.now) }
 {
     for number in 0..counts.len() {
-        make_room_at(alloc, rings, number, counts[number])?;
+        make_room_at(alloc, buffers, number, counts[number])?;
     }
     Ok(())
 }
 
-/// Makes room for messages in the rings that they go to: for a few, each ring gets room for all of them, which is
+/// Makes room for messages in the buffers that they go to: for a few, each buffer gets room for all of them, which is
 /// quickly checked; for many, each gets room for its own.
 fn make_room_for(
     alloc: Global,
-    rings: &mut Vec<Ring>,
+    buffers: &mut Vec<Buffer>,
     numbers: &[usize],
     channels: u16,
     messages: &[Message],
 ) -> Result<(), AllocError>
-    requires { HasRingNumbers channels numbers.now }
-    ensures grows { Grows rings.old.items rings.new.items }
-    ensures room { OnOk result (CanTakeUp channels rings.new.items messages.now) }
+    requires { HasBufferNumbers channels numbers.now }
+    ensures grows { Grows buffers.old.items buffers.new.items }
+    ensures room { OnOk result (CanTakeUp channels buffers.new.items messages.now) }
 {
     if messages.len() > FEW_MESSAGES {
-        let counts = count_by_ring(alloc, numbers, channels, messages)?;
-        make_counted_room(alloc, rings, &counts)?;
+        let counts = count_by_buffer(alloc, numbers, channels, messages)?;
+        make_counted_room(alloc, buffers, &counts)?;
         return Ok(());
     }
-    if !is_room_for(rings, numbers, channels, messages) {
-        make_room_for_all(alloc, rings, numbers, channels, messages)?;
+    if !is_room_for(buffers, numbers, channels, messages) {
+        make_room_for_all(alloc, buffers, numbers, channels, messages)?;
     }
     Ok(())
 }
 
-/// Puts a message into the ring that it goes to, for which room is made, and gives the number of that ring. Where
-/// memory is refused, the same messages stand in the rings as before.
+/// Puts a message into the buffer that it goes to, for which room is made, and gives the number of that buffer. Where
+/// memory is refused, the same messages stand in the buffers as before.
 #[inline(always)]
 fn put_one(
     alloc: Global,
-    rings: &mut Vec<Ring>,
+    buffers: &mut Vec<Buffer>,
     numbers: &[usize],
     channels: u16,
     message: &Message,
 ) -> Result<usize, AllocError>
-    requires numbers { HasRingNumbers channels numbers.now }
-    requires rings { AreRings channels 0 (contents rings.old.items) }
-    ensures number { IfOk result (λ number. number ≡ ring_of channels message.now.link) }
-    ensures rings { AreRings channels 0 (contents rings.new.items) }
-    ensures ok { OnOk result (HaveGained rings.old.items rings.new.items (message.now ∷ [])) }
-    ensures err { OnErr result (HoldSame rings.old.items rings.new.items) }
+    requires numbers { HasBufferNumbers channels numbers.now }
+    requires buffers { AreBuffers channels 0 (contents buffers.old.items) }
+    ensures number { IfOk result (λ number. number ≡ buffer_of channels message.now.link) }
+    ensures buffers { AreBuffers channels 0 (contents buffers.new.items) }
+    ensures ok { OnOk result (HaveGained buffers.old.items buffers.new.items (message.now ∷ [])) }
+    ensures err { OnErr result (HoldSame buffers.old.items buffers.new.items) }
 {
     let number = number_of(numbers, channels, message.link);
-    make_room_at(alloc, rings, number, 1)?;
-    put_by_age(&mut rings[number], message);
+    make_room_at(alloc, buffers, number, 1)?;
+    buffers[number].put_by_age(message);
     Ok(number)
 }
 
-/// Puts messages into the rings that they go to, which have room for them.
-fn put_all(rings: &mut Vec<Ring>, numbers: &[usize], channels: u16, messages: &[Message])
-    requires numbers { HasRingNumbers channels numbers.now }
-    requires rings { AreRings channels 0 (contents rings.old.items) }
-    requires room { CanTakeUp channels rings.old.items messages.now }
-    ensures rings { AreRings channels 0 (contents rings.new.items) }
-    ensures messages { HaveGained rings.old.items rings.new.items messages.now }
+/// Puts messages into the buffers that they go to, which have room for them.
+fn put_all(buffers: &mut Vec<Buffer>, numbers: &[usize], channels: u16, messages: &[Message])
+    requires numbers { HasBufferNumbers channels numbers.now }
+    requires buffers { AreBuffers channels 0 (contents buffers.old.items) }
+    requires room { CanTakeUp channels buffers.old.items messages.now }
+    ensures buffers { AreBuffers channels 0 (contents buffers.new.items) }
+    ensures messages { HaveGained buffers.old.items buffers.new.items messages.now }
 {
     for message in messages {
         let number = number_of(numbers, channels, message.link);
-        put_by_age(&mut rings[number], message);
+        buffers[number].put_by_age(message);
     }
 }
 
-/// Puts messages in order of arrival, in which nearly every one joins its ring at the back. Those that arrive
-/// together stay in order, so that all end up in the rings where they would have been.
+/// Puts messages in order of arrival, in which nearly every one joins its buffer at the back. Those that arrive
+/// together stay in order, so that all end up in the buffers where they would have been.
 fn sort_by_arrival(alloc: Global, messages: &mut [Message]) -> Result<(), AllocError>
     ensures same { IsPermutation messages.old messages.new }
     ensures puts { JoinAlike messages.old messages.new }
@@ -308,14 +304,14 @@ fn sort_by_arrival(alloc: Global, messages: &mut [Message]) -> Result<(), AllocE
     messages.sort_by_key(alloc, |message| message.arrival)
 }
 
-/// Whether more than a few messages go to some ring.
+/// Whether more than a few messages go to some buffer.
 fn is_any_busy(counts: &[usize]) -> bool
     ensures { result ≡ list_any (nat_lt FEW_MESSAGES) counts.now }
 {
     counts.iter().any(|count| *count > FEW_MESSAGES)
 }
 
-/// Sorts messages by arrival where more than a few of them go to one ring.
+/// Sorts messages by arrival where more than a few of them go to one buffer.
 #[inline(never)]
 fn sort_if_many(
     alloc: Global,
@@ -323,18 +319,18 @@ fn sort_if_many(
     channels: u16,
     messages: &mut [Message],
 ) -> Result<(), AllocError>
-    requires { HasRingNumbers channels numbers.now }
+    requires { HasBufferNumbers channels numbers.now }
     ensures same { IsPermutation messages.old messages.new }
     ensures puts { JoinAlike messages.old messages.new }
 {
-    let counts = count_by_ring(alloc, numbers, channels, messages)?;
+    let counts = count_by_buffer(alloc, numbers, channels, messages)?;
     if is_any_busy(&counts) {
         sort_by_arrival(alloc, messages)?;
     }
     Ok(())
 }
 
-/// Puts messages in the order in which they are to be put into the rings.
+/// Puts messages in the order in which they are to be put into the buffers.
 #[inline(always)]
 fn put_in_order(
     alloc: Global,
@@ -342,7 +338,7 @@ fn put_in_order(
     channels: u16,
     messages: &mut [Message],
 ) -> Result<(), AllocError>
-    requires { HasRingNumbers channels numbers.now }
+    requires { HasBufferNumbers channels numbers.now }
     ensures same { IsPermutation messages.old messages.new }
     ensures puts { JoinAlike messages.old messages.new }
 {
@@ -352,146 +348,79 @@ fn put_in_order(
     Ok(())
 }
 
-/// Puts messages into the rings that they go to; they may change places. Where memory is refused, the same messages
-/// stand in the rings as before.
+/// Puts messages into the buffers that they go to; they may change places. Where memory is refused, the same messages
+/// stand in the buffers as before.
 #[inline(always)]
 fn take_up(
     alloc: Global,
-    rings: &mut Vec<Ring>,
+    buffers: &mut Vec<Buffer>,
     numbers: &[usize],
     channels: u16,
     messages: &mut [Message],
 ) -> Result<(), AllocError>
-    requires numbers { HasRingNumbers channels numbers.now }
-    requires rings { AreRings channels 0 (contents rings.old.items) }
-    ensures rings { AreRings channels 0 (contents rings.new.items) }
+    requires numbers { HasBufferNumbers channels numbers.now }
+    requires buffers { AreBuffers channels 0 (contents buffers.old.items) }
+    ensures buffers { AreBuffers channels 0 (contents buffers.new.items) }
     ensures same { IsPermutation messages.old messages.new }
-    ensures ok { OnOk result (HaveGained rings.old.items rings.new.items messages.old) }
-    ensures err { OnErr result (HoldSame rings.old.items rings.new.items) }
+    ensures ok { OnOk result (HaveGained buffers.old.items buffers.new.items messages.old) }
+    ensures err { OnErr result (HoldSame buffers.old.items buffers.new.items) }
 {
     put_in_order(alloc, numbers, channels, messages)?;
-    make_room_for(alloc, rings, numbers, channels, messages)?;
-    put_all(rings, numbers, channels, messages);
+    make_room_for(alloc, buffers, numbers, channels, messages)?;
+    put_all(buffers, numbers, channels, messages);
     Ok(())
 }
 
-/// Takes what arrives before a cycle out of a ring, into an empty list. Where memory is refused, the rings stay as
-/// they were.
+/// The messages in a buffer that arrive before a cycle; none, where there is no such buffer.
 #[inline(always)]
-fn take_from(
-    rings: &mut Vec<Ring>,
-    number: usize,
-    until: Cycle,
-    inbox: &mut Vec<Message>,
-) -> Result<(), AllocError>
-    requires empty { inbox.old.items ≡ [] }
-    requires in_order { IsByAge (ring_messages_at rings.old.items number) }
-    ensures taken { OnOk result (inbox.new.items ≡ due_in until rings.old.items number) }
-    ensures rest { OnOk result (contents rings.new.items ≡ left_in until rings.old.items number) }
-    ensures err { OnErr result (contents rings.new.items ≡ contents rings.old.items) }
+fn due_in(buffers: &[Buffer], number: usize, until: Cycle) -> &[Message]
+    requires { IsByAge (buffer_messages_at buffers.now number) }
+    ensures { result.now ≡ due_in until buffers.now number }
 {
-    if number >= rings.len() {
-        return Ok(());
+    match buffers.get(number) {
+        Some(buffer) => buffer.due_before(until),
+        None => &[],
     }
-    take_before(&mut rings[number], until, inbox)?;
-    Ok(())
 }
 
-/// Takes what arrives before a cycle out of two rings that stand one behind the other, into an empty list, by age.
-/// Where memory is refused, the rings stay as they were.
-fn take_heads(
-    rings: &mut Vec<Ring>,
-    number: usize,
-    until: Cycle,
-    inbox: &mut Vec<Message>,
-) -> Result<(), AllocError>
-    requires small { number + 1 < 2 ^ 64 }
-    requires exist { number + 1 < length rings.old.items }
-    requires empty { inbox.old.items ≡ [] }
-    requires first { IsByAge (ring_messages_at rings.old.items number) }
-    requires second { IsByAge (ring_messages_at rings.old.items (number + 1)) }
-    ensures taken { OnOk result (inbox.new.items ≡ due_in_both until rings.old.items number) }
-    ensures rest { OnOk result (contents rings.new.items ≡ left_both until rings.old.items number) }
-    ensures err { OnErr result (contents rings.new.items ≡ contents rings.old.items) }
+/// Takes the first messages out of a buffer, and gives the arrival of the next one.
+#[inline(always)]
+fn drop_in(buffers: &mut Vec<Buffer>, number: usize, count: usize) -> Option<Cycle>
+    requires { count ≤ length (buffer_messages_at buffers.old.items number) }
+    ensures rest { contents buffers.new.items ≡ slice_set (contents buffers.old.items) number
+        (drop count (buffer_messages_at buffers.old.items number)) }
+    ensures next { result ≡ first_arrival (buffer_messages_at buffers.new.items number) }
 {
-    let (first, second) = copy_heads(&rings[number], &rings[number + 1], until, inbox)?;
-    drop_first(&mut rings[number], first);
-    drop_first(&mut rings[number + 1], second);
-    Ok(())
-}
-
-/// Takes what arrives before a cycle out of a core's ring of replies that no ring stands behind, into an empty list.
-/// Where memory is refused, the rings stay as they were.
-#[cold]
-#[inline(never)]
-fn take_from_last(
-    rings: &mut Vec<Ring>,
-    number: usize,
-    until: Cycle,
-    inbox: &mut Vec<Message>,
-) -> Result<(), AllocError>
-    requires empty { inbox.old.items ≡ [] }
-    requires in_order { IsByAge (ring_messages_at rings.old.items number) }
-    ensures taken { OnOk result (inbox.new.items ≡ due_in until rings.old.items number) }
-    ensures rest { OnOk result (contents rings.new.items ≡ left_in until rings.old.items number) }
-    ensures err { OnErr result (contents rings.new.items ≡ contents rings.old.items) }
-{
-    take_from(rings, number, until, inbox)
-}
-
-/// Takes what arrives before a cycle out of a ring and the one behind it, where they exist, into an empty list, by
-/// age. Where memory is refused, the rings stay as they were.
-fn take_from_both(
-    rings: &mut Vec<Ring>,
-    number: usize,
-    until: Cycle,
-    inbox: &mut Vec<Message>,
-) -> Result<(), AllocError>
-    requires small { number + 1 < 2 ^ 64 }
-    requires empty { inbox.old.items ≡ [] }
-    requires first { IsByAge (ring_messages_at rings.old.items number) }
-    requires second { IsByAge (ring_messages_at rings.old.items (number + 1)) }
-    ensures taken { OnOk result (inbox.new.items ≡ due_in_both until rings.old.items number) }
-    ensures rest { OnOk result (contents rings.new.items ≡ left_both until rings.old.items number) }
-    ensures err { OnErr result (contents rings.new.items ≡ contents rings.old.items) }
-{
-    if number + 1 >= rings.len() {
-        return take_from_last(rings, number, until, inbox);
+    if number >= buffers.len() {
+        return None;
     }
-    take_heads(rings, number, until, inbox)
+    buffers[number].drop_first(count)
 }
 
-/// When the first message in a ring arrives; none, where there is no such ring.
-fn first_arrival_in(rings: &[Ring], number: usize) -> Option<Cycle>
-    ensures { result ≡ first_arrival (ring_messages_at rings.now number) }
+/// Whether nothing is in flight in any of these buffers.
+fn all_empty(buffers: &[Buffer]) -> bool
+    ensures { result ≡ list_all (λ buffer. length buffer.items == 0) buffers.now }
 {
-    first_arrival(rings.get(number)?)
+    buffers.iter().all(|buffer| buffer.as_slice().is_empty())
 }
 
-/// Whether nothing is in flight in any of these rings.
-fn all_empty(rings: &[Ring]) -> bool
-    ensures { result ≡ list_all (λ ring. length ring.items == 0) rings.now }
+/// The earlier of a cycle and of the arrival of a buffer's first message; if there is only one of them, that one.
+fn earlier_arrival(least: Option<Cycle>, buffer: &Buffer) -> Option<Cycle>
+    ensures { result ≡ earlier_arrival least buffer.now.items }
 {
-    rings.iter().all(|ring| ring.is_empty())
-}
-
-/// The earlier of a cycle and of the arrival of a ring's first message; if there is only one of them, that one.
-fn earlier_arrival(least: Option<Cycle>, ring: &Ring) -> Option<Cycle>
-    ensures { result ≡ earlier_arrival least ring.now.items }
-{
-    match first_arrival(ring) {
+    match buffer.first_arrival() {
         Some(arrival) => Some(least.map_or(arrival, |cycle: Cycle| cycle.min(arrival))),
         None => least,
     }
 }
 
-/// The least arrival of a ring's first message.
-fn earliest(rings: &[Ring]) -> Option<Cycle>
-    ensures { result ≡ fold (λ least ring. earlier_arrival least ring.items) None rings.now }
+/// The least arrival of a buffer's first message.
+fn earliest(buffers: &[Buffer]) -> Option<Cycle>
+    ensures { result ≡ fold (λ least buffer. earlier_arrival least buffer.items) None buffers.now }
 {
-    rings
+    buffers
         .iter()
-        .fold(None, |least, ring| earlier_arrival(least, ring))
+        .fold(None, |least, buffer| earlier_arrival(least, buffer))
 }
 
 impl Links {
@@ -506,7 +435,7 @@ impl Links {
             alloc,
             channels: config.channels,
             numbers,
-            rings: Vec::new(alloc),
+            buffers: Vec::new(alloc),
         })
     }
 
@@ -518,15 +447,15 @@ impl Links {
     {
         take_up(
             self.alloc,
-            &mut self.rings,
+            &mut self.buffers,
             &self.numbers,
             self.channels,
             messages,
         )
     }
 
-    /// Puts messages in the order in which they are best taken up one after the other: by arrival, where one ring takes
-    /// more than a few of them. Those that arrive together stay in order, so they are taken up to the same effect.
+    /// Puts messages in the order in which they are best taken up one after the other: by arrival, where one buffer
+    /// takes more than a few of them. Those that arrive together stay in order, so they are taken up to the same effect.
     #[inline(always)]
     pub fn put_in_order(&self, messages: &mut [Message]) -> Result<(), AllocError>
         ensures same { IsPermutation messages.old messages.new }
@@ -535,81 +464,127 @@ impl Links {
         put_in_order(self.alloc, &self.numbers, self.channels, messages)
     }
 
-    /// Takes a message up, and gives the number of its ring, which tells the unit that it goes to. Where memory is
+    /// Takes a message up, and gives the number of its buffer, which tells the unit that it goes to. Where memory is
     /// refused, the links stay as they were.
     #[inline(always)]
     pub fn put(&mut self, message: &Message) -> Result<usize, AllocError>
-        ensures number { IfOk result (λ ring. ring ≡ ring_of self.old.channels message.now.link) }
+        ensures number { IfOk result (λ buffer. buffer ≡ buffer_of self.old.channels message.now.link) }
         ensures ok { OnOk result (self.new ≡ with_sent self.old (message.now ∷ [])) }
         ensures err { OnErr result (self.new ≡ self.old) }
     {
         put_one(
             self.alloc,
-            &mut self.rings,
+            &mut self.buffers,
             &self.numbers,
             self.channels,
             message,
         )
     }
 
-    /// Takes out the messages to a unit that arrive before the cycle `until`, by age, into an empty list. Nothing in
-    /// flight is overdue, so for a unit that is taken from `now` to `until` they are those that arrive in this span.
-    /// The only error is out of memory, and the links then stay as they were.
-    pub fn take_due_into(
-        &mut self,
-        unit: Unit,
-        until: Cycle,
-        inbox: &mut Vec<Message>,
-    ) -> Result<(), AllocError>
-        requires { inbox.old.items ≡ [] }
-        ensures ok { OnOk result (inbox.new.items ≡ due_before self.old unit until) }
-        ensures by_age { OnOk result (IsByAge inbox.new.items) }
-        ensures rest { OnOk result (self.new ≡ without_due self.old unit until) }
-        ensures err { OnErr result (self.new ≡ self.old) }
+    /// The messages in the buffer with a number that arrive before a cycle, by age.
+    #[inline(always)]
+    fn due_in(&self, number: usize, until: Cycle) -> &[Message]
+        ensures due { result.now ≡ due_in_buffer self.now number until }
+        ensures by_age { IsByAge result.now }
     {
-        let Some(number) = ring_of_unit(self.channels, unit) else {
-            return Ok(());
-        };
-        match unit {
-            Unit::Channel(_) => {
-                take_from(&mut self.rings, number, until, inbox)?;
-                Ok(())
-            }
-            Unit::Core(_) => {
-                take_from_both(&mut self.rings, number, until, inbox)?;
-                Ok(())
-            }
+        due_in(&self.buffers, number, until)
+    }
+
+    /// Takes the messages that arrive before a cycle, of which there are `count`, out of the buffer with a number, and
+    /// gives the arrival of the next one in it.
+    #[inline(always)]
+    fn drop_due(&mut self, number: usize, until: Cycle, count: usize) -> Option<Cycle>
+        requires { count ≡ length (due_in_buffer self.old number until) }
+        ensures rest { self.new ≡ without_due_in self.old number until }
+        ensures next { result ≡ first_arrival (in_buffer self.new number) }
+        ensures least { IfSome result (λ cycle.
+            NoneArrivesBefore cycle (in_buffer self.new number)) }
+    {
+        drop_in(&mut self.buffers, number, count)
+    }
+
+    /// The messages to a channel that arrive before the cycle `until`, by age. They stay in flight until they are taken
+    /// out (`drop_due_at_channel`).
+    #[inline(always)]
+    pub fn due_at_channel(&self, channel: ChannelId, until: Cycle) -> &[Message]
+        ensures { result.now ≡ due_before self.now (MachineUnit.Channel channel) until }
+    {
+        if channel >= u32::from(self.channels) {
+            return &[];
         }
+        self.due_in(channel as usize, until)
+    }
+
+    /// Takes out the messages to a channel that arrive before the cycle `until`, of which there are `count`, and gives
+    /// the arrival of the next one that is in flight to it.
+    #[inline(always)]
+    pub fn drop_due_at_channel(
+        &mut self,
+        channel: ChannelId,
+        until: Cycle,
+        count: usize,
+    ) -> Option<Cycle>
+        requires { count ≡ length (due_before self.old (MachineUnit.Channel channel) until) }
+        ensures rest { self.new ≡ without_due self.old (MachineUnit.Channel channel) until }
+        ensures next { result ≡ first_arrival (in_flight_to self.new (MachineUnit.Channel channel)) }
+        ensures least { IfSome result (λ cycle.
+            NoneArrivesBefore cycle (in_flight_to self.new (MachineUnit.Channel channel))) }
+    {
+        if channel >= u32::from(self.channels) {
+            return None;
+        }
+        self.drop_due(channel as usize, until, count)
+    }
+
+    /// The replies and the credits to a core that arrive before the cycle `until`, each by age; together they are all
+    /// that do. They stay in flight until they are taken out (`drop_due_at_core`).
+    #[inline(always)]
+    pub fn due_at_core(&self, core: CoreId, until: Cycle) -> (&[Message], &[Message])
+        ensures replies { result.0.now ≡ replies_due self.now core until }
+        ensures credits { result.1.now ≡ credits_due self.now core until }
+        ensures all { due_before self.now (MachineUnit.Core core) until
+            ≡ fold insert_by_age result.0.now result.1.now }
+        ensures by_age { IsByAge result.1.now }
+    {
+        let number = replies_number(self.channels, core);
+        (self.due_in(number, until), self.due_in(number + 1, until))
+    }
+
+    /// Takes out the messages to a core that arrive before the cycle `until`, of which so many are replies and so many
+    /// credits, and gives the arrival of the next one that is in flight to it.
+    #[inline(always)]
+    pub fn drop_due_at_core(
+        &mut self,
+        core: CoreId,
+        until: Cycle,
+        replies: usize,
+        credits: usize,
+    ) -> Option<Cycle>
+        requires replies { replies ≡ length (replies_due self.old core until) }
+        requires credits { credits ≡ length (credits_due self.old core until) }
+        ensures rest { self.new ≡ without_due self.old (MachineUnit.Core core) until }
+        ensures next { result ≡ first_arrival (in_flight_to self.new (MachineUnit.Core core)) }
+        ensures least { IfSome result (λ cycle.
+            NoneArrivesBefore cycle (in_flight_to self.new (MachineUnit.Core core))) }
+    {
+        let number = replies_number(self.channels, core);
+        let reply = self.drop_due(number, until, replies);
+        let credit = self.drop_due(number + 1, until, credits);
+        earlier(reply, credit)
     }
 
     /// Copies of all messages in flight, by age.
     pub fn messages(&self, alloc: Global) -> Result<Vec<Message>, AllocError>
         ensures { IfOk result (λ v. v.items ≡ self.now.messages) }
     {
-        messages_of(alloc, &self.rings)
+        messages_of(alloc, &self.buffers)
     }
 
     /// Whether nothing is in flight.
     pub fn is_empty(&self) -> bool
         ensures { IsTrue result ↔ (self.now.messages ≡ []) }
     {
-        all_empty(&self.rings)
-    }
-
-    /// When the first message in flight to a unit arrives; none, where none is in flight to it.
-    pub fn next_arrival_at(&self, unit: Unit) -> Option<Cycle>
-        ensures first { result ≡ first_arrival (in_flight_to self.now unit) }
-        ensures least { IfSome result (λ cycle.
-            NoneArrivesBefore cycle (in_flight_to self.now unit)) }
-    {
-        let Some(number) = ring_of_unit(self.channels, unit) else {
-            return None;
-        };
-        let first = first_arrival_in(&self.rings, number);
-        match unit {
-            Unit::Channel(_) => first,
-            Unit::Core(_) => earlier(first, first_arrival_in(&self.rings, number + 1)),
-        }
+        all_empty(&self.buffers)
     }
 
     /// The least arrival of a message in flight; none, where none is in flight.
@@ -618,6 +593,6 @@ impl Links {
         ensures least { IfSome result (λ cycle. NoneArrivesBefore cycle self.now.messages) }
         ensures attained { IfSome result (λ cycle. SomeAt cycle self.now.messages) }
     {
-        earliest(&self.rings)
+        earliest(&self.buffers)
     }
 }

@@ -1,13 +1,25 @@
-//! Messages of several rings, merged by age.
+//! Messages of several buffers, merged by age.
 
-ghost use Rattle.std.specs.Prelude.{◌≡◌, ◌&&◌, nat_lt, [], length, fold, IfOk, OnOk};
+ghost use Rattle.std.specs.Prelude.{◌≡◌, ◌+◌, ◌&&◌, nat_lt, [], ◌++◌, length, fold, IfOk, OnOk, vec_len, vec_capacity};
 ghost use Rattle.std.specs.List.{AllByRecursion};
 ghost use Rattle.sim_base.specs.History.{insert_by_age};
-ghost use Rattle.links.specs.Rings.{contents, ring_messages, IsByAge, due_of, merged_due};
+ghost use Rattle.links.specs.Buffers.{contents, buffer_messages, IsByAge, HasSpace};
 
-use crate::rings::{Ring, append_all, copy_both_before, head_before};
-use sim_base::message::{Cycle, Message};
+use crate::buffers::Buffer;
+use sim_base::message::Message;
 use std::alloc::{AllocError, Global};
+
+/// Puts messages at the end of a list, which has room for them.
+fn append_all(list: &mut Vec<Message>, messages: &[Message])
+    requires { HasSpace list.old (length messages.now) }
+    ensures items { list.new.items ≡ list.old.items ++ messages.now }
+    ensures len { vec_len list.new ≡ vec_len list.old + length messages.now }
+    ensures capacity { vec_capacity list.new ≡ vec_capacity list.old }
+{
+    for message in messages {
+        list.push_reserved(*message);
+    }
+}
 
 /// Whether something is left of both lists.
 fn are_left(first: &[Message], i: usize, second: &[Message], j: usize) -> bool
@@ -18,30 +30,29 @@ fn are_left(first: &[Message], i: usize, second: &[Message], j: usize) -> bool
 
 /// Copies two lists by age into an empty one as one; of two messages of the same age the one of the first list goes
 /// first.
-#[inline(always)]
 fn merge_into(
-    inbox: &mut Vec<Message>,
+    all: &mut Vec<Message>,
     first: &[Message],
     second: &[Message],
 ) -> Result<(), AllocError>
-    requires empty { inbox.old.items ≡ [] }
+    requires empty { all.old.items ≡ [] }
     requires in_order { IsByAge second.now }
-    ensures { OnOk result (inbox.new.items ≡ fold insert_by_age first.now second.now) }
+    ensures { OnOk result (all.new.items ≡ fold insert_by_age first.now second.now) }
 {
-    inbox.reserve(first.len() + second.len())?;
+    all.reserve(first.len() + second.len())?;
     let (mut i, mut j) = (0, 0);
     while are_left(first, i, second, j) {
         let (a, b) = (&first[i], &second[j]);
         if b.is_before(a) {
-            inbox.push_reserved(*b);
+            all.push_reserved(*b);
             j += 1;
         } else {
-            inbox.push_reserved(*a);
+            all.push_reserved(*a);
             i += 1;
         }
     }
-    append_all(inbox, &first[i..]);
-    append_all(inbox, &second[j..]);
+    append_all(all, &first[i..]);
+    append_all(all, &second[j..]);
     Ok(())
 }
 
@@ -59,62 +70,16 @@ pub fn merged(
     Ok(all)
 }
 
-/// Copies what arrives before a cycle out of two rings into an empty list, by age, also where it goes on at the
-/// beginning of a ring's block, and says how many messages they are of each ring.
-#[cold]
-#[inline(never)]
-fn copy_wrapped(
-    first: &Ring,
-    second: &Ring,
-    until: Cycle,
-    inbox: &mut Vec<Message>,
-) -> Result<(usize, usize), AllocError>
-    requires empty { inbox.old.items ≡ [] }
-    requires first { IsByAge first.now.items }
-    requires second { IsByAge second.now.items }
-    ensures first { IfOk result (λ counts. counts.0 ≡ length (due_of until first.now.items)) }
-    ensures second { IfOk result (λ counts. counts.1 ≡ length (due_of until second.now.items)) }
-    ensures copied { OnOk result (inbox.new.items ≡ merged_due until first.now second.now) }
+/// What stands in several buffers, by age.
+pub fn messages_of(alloc: Global, buffers: &[Buffer]) -> Result<Vec<Message>, AllocError>
+    requires { AllByRecursion IsByAge (contents buffers.now) }
+    ensures { IfOk result (λ v. v.items ≡ buffer_messages buffers.now) }
 {
-    inbox.reserve(first.len() + second.len())?;
-    Ok(copy_both_before(first, second, until, inbox))
-}
-
-/// Copies what arrives before a cycle out of two rings into an empty list, by age, and says how many messages they
-/// are of each ring, all at its head.
-pub fn copy_heads(
-    first: &Ring,
-    second: &Ring,
-    until: Cycle,
-    inbox: &mut Vec<Message>,
-) -> Result<(usize, usize), AllocError>
-    requires empty { inbox.old.items ≡ [] }
-    requires first { IsByAge first.now.items }
-    requires second { IsByAge second.now.items }
-    ensures first { IfOk result (λ counts. counts.0 ≡ length (due_of until first.now.items)) }
-    ensures second { IfOk result (λ counts. counts.1 ≡ length (due_of until second.now.items)) }
-    ensures copied { OnOk result (inbox.new.items ≡ merged_due until first.now second.now) }
-{
-    let Some(a) = head_before(first, until) else {
-        return copy_wrapped(first, second, until, inbox);
-    };
-    let Some(b) = head_before(second, until) else {
-        return copy_wrapped(first, second, until, inbox);
-    };
-    merge_into(inbox, a, b)?;
-    Ok((a.len(), b.len()))
-}
-
-/// What stands in several rings, by age.
-pub fn messages_of(alloc: Global, rings: &[Ring]) -> Result<Vec<Message>, AllocError>
-    requires { AllByRecursion IsByAge (contents rings.now) }
-    ensures { IfOk result (λ v. v.items ≡ ring_messages rings.now) }
-{
-    match rings {
+    match buffers {
         [] => Ok(Vec::new(alloc)),
-        [ring] => ring.to_vec(alloc),
+        [buffer] => buffer.as_slice().to_vec(alloc),
         _ => {
-            let (low, high) = rings.split_at(rings.len() / 2);
+            let (low, high) = buffers.split_at(buffers.len() / 2);
             let first = messages_of(alloc, low)?;
             let second = messages_of(alloc, high)?;
             merged(alloc, &first, &second)

@@ -22,13 +22,35 @@ fn sent_on_all(rt: &impl Abort, alloc: Global) -> Vec<Message> {
     sent
 }
 
+/// Takes out what arrives at a unit before a cycle: at a core the replies, and then the credits.
+fn taken(
+    rt: &impl Abort,
+    alloc: Global,
+    links: &mut Links,
+    (unit, until): (Unit, Cycle),
+) -> Vec<Message> {
+    let mut all = Vec::new(alloc);
+    match unit {
+        Unit::Channel(channel) => {
+            let due = links.due_at_channel(channel, until);
+            all.extend_from_slice(due).expect(rt, "memory");
+            let count = due.len();
+            let _next = links.drop_due_at_channel(channel, until, count);
+        }
+        Unit::Core(core) => {
+            let (replies, credits) = links.due_at_core(core, until);
+            all.extend_from_slice(replies).expect(rt, "memory");
+            all.extend_from_slice(credits).expect(rt, "memory");
+            let (replies, credits) = (replies.len(), credits.len());
+            let _next = links.drop_due_at_core(core, until, replies, credits);
+        }
+    }
+    all
+}
+
 /// Asserts on which links what arrives at a unit by cycle 7 comes.
 fn assert_due(rt: &impl Abort, alloc: Global, links: &mut Links, unit: Unit, want: &[LinkId]) {
-    let mut inbox = Vec::new(alloc);
-    links
-        .take_due_into(unit, 8, &mut inbox)
-        .expect(rt, "memory");
-    let due: Vec<LinkId> = inbox
+    let due: Vec<LinkId> = taken(rt, alloc, links, (unit, 8))
         .iter()
         .map(|message| message.link)
         .collect(alloc)
@@ -36,17 +58,16 @@ fn assert_due(rt: &impl Abort, alloc: Global, links: &mut Links, unit: Unit, wan
     expect(rt, &due.as_slice(), &want);
 }
 
-/// Replies and credits come to core 5 by their links, each kind from each channel, and requests to channel 3, from each
+/// Replies, and then credits, come to core 5 by their links, from each channel, and requests to channel 3, from each
 /// core.
 fn assert_by_link(rt: &impl Abort, alloc: Global, links: &mut Links) {
     let mut to_core = Vec::new(alloc);
-    for channel in 0..16u64 {
-        to_core
-            .push(3 * (5 * 16 + channel) + 1)
-            .expect(rt, "memory");
-        to_core
-            .push(3 * (5 * 16 + channel) + 2)
-            .expect(rt, "memory");
+    for kind in 1..3u64 {
+        for channel in 0..16u64 {
+            to_core
+                .push(3 * (5 * 16 + channel) + kind)
+                .expect(rt, "memory");
+        }
     }
     let mut to_channel = Vec::new(alloc);
     for core in 0..64u64 {
@@ -103,20 +124,17 @@ static TAKES: [(Unit, Cycle, &[Message], Option<Cycle>); 9] = [
     (Unit::Channel(1), u64::MAX, &[], Some(6)),
     (Unit::Core(1), u64::MAX, &[LATE], Some(12)),
     (Unit::Core(1), u64::MAX, &[], Some(12)),
-    (Unit::Core(0), 20, &[CREDIT, REPLY], Some(13)),
+    (Unit::Core(0), 20, &[REPLY, CREDIT], Some(13)),
     (Unit::Channel(0), 13, &[], Some(13)),
     (Unit::Channel(0), 14, &[REQUEST], None),
 ];
 
 fn assert_takes(rt: &impl Abort, alloc: Global, links: &mut Links) {
     for (unit, until, wanted, next) in &TAKES {
-        let mut inbox = Vec::new(alloc);
-        links
-            .take_due_into(*unit, *until, &mut inbox)
-            .expect(rt, "memory");
+        let due = taken(rt, alloc, links, (*unit, *until));
         expect(
             rt,
-            &(until, inbox.as_slice(), links.next_arrival()),
+            &(until, due.as_slice(), links.next_arrival()),
             &(until, *wanted, *next),
         );
     }

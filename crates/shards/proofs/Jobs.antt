@@ -68,13 +68,13 @@ taken-up machine bounds index now shard inbound words links h low e =
 pub job-ends : (machine : Machine) (bounds : List ℕ) (name : JobName) (wake : ℕ) (before after : Shard) (inbound lists : List (Vec Message Global)) → IsJob machine bounds name before inbound
     → after.machine ≡ before.machine → after.bounds ≡ before.bounds → after.range.first ≡ before.range.first → length after.range.units.items ≡ length before.range.units.items
     → HasShardRun machine name.from name.until after
-    → after.traffic.lists.sent.items ≡ sent_by machine name.from name.until before.range.first (length before.range.units.items)
-    → name.until ≤ wake → All (λ word. wake ≤ word) after.range.words.items → All (λ m. wake ≤ m.arrival) after.traffic.lists.sent.items → length lists ≡ length inbound
-    → AreSortedByShard machine.config bounds after.traffic.lists.sent.items lists
+    → after.traffic.sent.items ≡ sent_by machine name.from name.until before.range.first (length before.range.units.items)
+    → name.until ≤ wake → All (λ word. wake ≤ word) after.range.words.items → All (λ m. wake ≤ m.arrival) after.traffic.sent.items → length lists ≡ length inbound
+    → AreSortedByShard machine.config bounds after.traffic.sent.items lists
     → IsDone machine bounds name wake after lists
 job-ends machine bounds name wake before after inbound lists h shared same first count has_run sent since sleep arrivals many each =
     let is = h.before.is in
-    let sends : after.traffic.lists.sent.items ≡ sent_of_shard machine name.from name.until after =
+    let sends : after.traffic.sent.items ≡ sent_of_shard machine name.from name.until after =
     sent ∙ ap₂ (sent_by machine name.from name.until) (sym first) (sym count) in
     record {
       split = h.before.split;

@@ -25,7 +25,7 @@ use Rattle.shards.specs.Lists.{lists_of, bound, IsSquare, AreTurned}
 use Rattle.shards.specs.Shards.{IsSplit, IsShard, IsAtRest, IsUpTo, IsSharded, AreFor, AreShards, sent_of_shard}
 use Rattle.shards.specs.Jobs.{job_at, jobs_at}
 use Rattle.shards.specs.Phases.{PhaseView, IsPhase, AreTakenApart}
-use Rattle.links.specs.Rings.{later_of}
+use Rattle.links.specs.Buffers.{later_of}
 use Rattle.units.specs.Units.{unit_at, unit_count}
 use Rattle.units.specs.Wakes.{UnitWithWord, HaveRun, AreBetweenPhases, IsStill, Waits, sent_in, unit_with_word_at}
 use Rattle.shards.specs.declared.shard.Shard.{Shard}

@@ -19,7 +19,7 @@ use Rattle.units.proofs.SpanLaws.FlightsInTurns.{flights-meet}
 use Rattle.units.specs.declared.machine.Machine.{Machine}
 use Rattle.units.specs.Runs.{flight_at}
 use Rattle.units.specs.Flight.{goes_among, among}
-use Rattle.links.specs.Rings.{later_of}
+use Rattle.links.specs.Buffers.{later_of}
 use Rattle.units.specs.Units.{unit_at}
 use Rattle.units.proofs.Due.{flight-each}
 use Rattle.units.specs.Wakes.{HoldInboxes, HaveRun, AreBetweenPhases, HoldsInbox, WaitAll, units_from, links_after}

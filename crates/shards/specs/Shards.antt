@@ -10,7 +10,7 @@
 --     HasRangeRun machine from until range links      the units of a range have gone over a phase
 --     AllAwake machine first now units      units at places from `first` on wait at a cycle, which is the word of each
 --     links_among s first past ms, flight_to machine now first past      links that hold what goes to some units
---     HaveSent machine from until range lists      a list holds what the units of a range send in a span
+--     HaveSent machine from until range sent      a list holds what the units of a range send in a span
 --     sent_of_shard machine from until shard      what the units of a shard send in a span
 --     AreFor machine from until shard lists      lists hold what was sent to the units of a shard in a span
 --     AreFrom machine bounds from until shard lists      lists hold what a shard's units sent, by receiving shard
@@ -38,7 +38,6 @@ use Rattle.units.specs.Flight.{among, sent_by}
 use Rattle.units.specs.Runs.{flight_at}
 use Rattle.units.specs.Units.{unit_at, unit_count}
 use Rattle.units.specs.declared.machine.Machine.{Machine}
-use Rattle.units.specs.declared.message_lists.MessageLists.{MessageLists}
 use Rattle.units.specs.declared.part.UnitState.{UnitState}
 use Rattle.units.specs.Wakes.{IsStill, HaveRun, AreBetweenPhases, Waits, sent_in, unit_with_word}
 use Rattle.units.specs.declared.timed_unit.TimedUnit.{TimedUnit}
@@ -109,9 +108,8 @@ abbrev pub sent_of_shard : Machine → ℕ → ℕ → Shard → List Message
 sent_of_shard machine from until shard = sent_by machine from until shard.range.first (length shard.range.units.items)
 
 -- a list holds what the units of a range send in a span
-abbrev pub HaveSent : Machine → ℕ → ℕ → UnitRange → MessageLists → Type 0
-HaveSent machine from until range lists =
-    lists.sent.items ≡ sent_by machine from until range.first (length range.units.items)
+abbrev pub HaveSent : Machine → ℕ → ℕ → UnitRange → List Message → Type 0
+HaveSent machine from until range sent = sent ≡ sent_by machine from until range.first (length range.units.items)
 
 -- lists hold, of what all units sent in a span, what goes to those of a shard
 abbrev pub AreFor : Machine → ℕ → ℕ → Shard → List (Vec Message Global) → Type 0
@@ -151,12 +149,12 @@ LowersWords lists old new =
 
 -- a shard keeps what its units sent in a span
 abbrev pub HasSent : ℕ → ℕ → Shard → Shard → Type 0
-HasSent from until old new = new.traffic.lists.sent.items ≡ sent_of_shard (arc_value old.machine) from until old
+HasSent from until old new = new.traffic.sent.items ≡ sent_of_shard (arc_value old.machine) from until old
 
 -- lists hold what a shard keeps of what its units sent, by the shard that it goes to
 abbrev pub HoldWhatWasSent : Shard → List (Vec Message Global) → Type 0
 HoldWhatWasSent shard lists =
-    AreSortedByShard (arc_value shard.machine).config shard.bounds.items shard.traffic.lists.sent.items lists
+    AreSortedByShard (arc_value shard.machine).config shard.bounds.items shard.traffic.sent.items lists
 
 -- A shard at the end of a phase. Before cycle `wake` its units send nothing, and nothing that they sent arrives.
 pub record IsAtRest (machine : Machine) (bounds : List ℕ) (index from until wake : ℕ) (shard : Shard) : Type 0 where

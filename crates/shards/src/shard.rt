@@ -97,12 +97,12 @@ fn go_all(
     requires order { now < until }
     requires early { until ≤ 10 ^ 12 }
     requires travels { TravelsFor machine.now.config (until - now) }
-    requires sent { traffic.old.lists.sent.items ≡ [] }
+    requires sent { traffic.old.sent.items ≡ [] }
     ensures first { range.new.first ≡ range.old.first }
     ensures count { length range.new.units.items ≡ length range.old.units.items }
     ensures words { length range.new.words.items ≡ length range.old.words.items }
     ensures has_run { OnOk result (HasRangeRun machine.now now until range.new traffic.new.links) }
-    ensures sent { OnOk result (HaveSent machine.now now until range.old traffic.new.lists) }
+    ensures sent { OnOk result (HaveSent machine.now now until range.old traffic.new.sent.items) }
 {
     let span = Span {
         here: now,
@@ -150,9 +150,9 @@ impl Shard {
         ensures since { IfOk result (λ wake. until ≤ wake) }
         ensures sleep { IfOk result (λ wake. All (λ word. wake ≤ word) self.new.range.words.items) }
         ensures arrivals { IfOk result (λ wake.
-            NoneArrivesBefore wake self.new.traffic.lists.sent.items) }
+            NoneArrivesBefore wake self.new.traffic.sent.items) }
     {
-        self.traffic.lists.sent.clear();
+        self.traffic.sent.clear();
         go_all(
             &self.machine,
             &mut self.traffic,
@@ -160,7 +160,7 @@ impl Shard {
             now,
             until,
         )?;
-        Ok(first_arrival(&self.traffic.lists.sent, least(&self.range.words)))
+        Ok(first_arrival(&self.traffic.sent, least(&self.range.words)))
     }
 
     /// Sorts what the units sent into lists, by the shard that it goes to.
@@ -174,7 +174,7 @@ impl Shard {
         sort_by_shard(
             &self.machine.config,
             &self.bounds,
-            &self.traffic.lists.sent,
+            &self.traffic.sent,
             lists,
         )
     }

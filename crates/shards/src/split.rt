@@ -19,7 +19,6 @@ use std::alloc::{AllocError, Global};
 use std::mem;
 use std::sync::Arc;
 use units::machine::Machine;
-use units::message_lists::MessageLists;
 use units::part::UnitState;
 use units::sim::Sim;
 use units::timed_unit::{TimedUnit, Traffic};
@@ -156,12 +155,14 @@ fn shard_of(
         end,
         &snapshot.messages,
     )?;
-    let lists = MessageLists::new(alloc);
     let shard = Shard {
         machine: snapshot.machine.clone()?,
         bounds: Vec::from_slice(alloc, bounds)?,
         range,
-        traffic: Traffic { links, lists },
+        traffic: Traffic {
+            links,
+            sent: Vec::new(alloc),
+        },
     };
     Ok(Box::new(alloc, shard)?)
 }
@@ -255,9 +256,9 @@ fn join_shard(
     let Shard { range, traffic, .. } = Box::into_inner(shard);
     let Traffic {
         links: own,
-        mut lists,
+        mut sent,
     } = traffic;
-    bring_up(&layout.machine, &mut lists, range, layout.at, parts)?;
+    bring_up(&layout.machine, &mut sent, range, layout.at, parts)?;
     links.accept(&mut own.messages(alloc)?)?;
     Ok(())
 }

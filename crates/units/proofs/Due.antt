@@ -21,7 +21,7 @@ use Rattle.sim_base.proofs.Grows.{is_unit-own}
 use Rattle.links.specs.InFlight.{is_due}
 use Rattle.units.specs.SpanLaws.Units.{Exists}
 use Rattle.units.specs.Units.{unit_count, unit_at}
-use Rattle.links.specs.Rings.{later_of}
+use Rattle.links.specs.Buffers.{later_of}
 use Rattle.units.specs.Flight.{left}
 use Rattle.units.proofs.Standing.{core-at_place, channel-at_place}
 use Rattle.units.proofs.SpanLaws.Later.{IsReceived, messages-received}

@@ -22,7 +22,7 @@ use Rattle.sim_base.proofs.Spans.{length_run}
 use Rattle.sim_base.proofs.Lists.{filter-each}
 use Rattle.units.specs.SpanLaws.Units.{Exists, sent_of}
 use Rattle.units.specs.Flight.{fresh}
-use Rattle.links.specs.Rings.{later_of}
+use Rattle.links.specs.Buffers.{later_of}
 use Rattle.units.specs.Units.{unit_at, unit_count}
 use Rattle.units.proofs.Due.{place-at, place_of_unit, exists-at}
 use Rattle.units.proofs.Filters.{filter-within}

@@ -19,7 +19,7 @@ use Rattle.laws.proofs.Sent.{flat_map-none}
 use Rattle.links.specs.InFlight.{InFlight, is_due}
 use Rattle.units.specs.Flight.{fresh, left, among, sent_by}
 use Rattle.units.specs.Parts.{IsPart, IsSim}
-use Rattle.links.specs.Rings.{later_of}
+use Rattle.links.specs.Buffers.{later_of}
 use Rattle.units.specs.declared.part.UnitState.{UnitState}
 use Rattle.units.specs.Units.{unit_at, unit_count}
 use Rattle.units.proofs.Due.{left-all, left-none, left-more, exists-at}

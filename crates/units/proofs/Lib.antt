@@ -16,6 +16,7 @@ pub mod Waiting
 pub mod Lowering
 pub mod Jumping
 pub mod Going
+pub mod Woken
 pub mod Passing
 pub mod Sharing
 pub mod Vectors

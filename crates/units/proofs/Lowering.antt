@@ -19,7 +19,7 @@ use Rattle.units.specs.SpanLaws.Quiet.{IsSilent}
 use Rattle.units.proofs.SpanLaws.Lists.{Sorted-filter}
 use Rattle.units.specs.Flight.{fresh, goes_among, among}
 use Rattle.units.specs.Parts.{IsPart}
-use Rattle.links.specs.Rings.{later_of}
+use Rattle.links.specs.Buffers.{later_of}
 use Rattle.units.specs.Units.{unit_at, unit_count}
 use Rattle.units.specs.Wakes.{UnitWithWord, Waits, WaitAll, AreLowered, unit_with_word_at, sent_in}
 use Rattle.units.specs.declared.timed_unit.TimedUnit.{TimedUnit}

@@ -10,7 +10,7 @@ use Rattle.sim_base.specs.declared.config.Config.{Config}
 use Rattle.sim_base.specs.declared.message.Message.{Message}
 use Rattle.sim_base.specs.History.{insert_by_age}
 use Rattle.links.specs.InFlight.{InFlight, with_sent}
-use Rattle.links.specs.Rings.{ring_of}
+use Rattle.links.specs.Buffers.{buffer_of}
 use Rattle.units.specs.Units.{unit_at, unit_count}
 use Rattle.units.proofs.Due.{same_unit, place_of_unit, place-at}
 use Rattle.units.specs.GoingOn.{IsReceiver, HasNoReceiver}
@@ -100,6 +100,6 @@ sent-next links now new n d sent less p q =
     ∙ ap (λ (x : InFlight). with_sent x (get_or sent n d ∷ [])) p
     ∙ ap (λ ms. record links { messages = ms }) (sym (fold_more insert_by_age links.messages sent n d less))
 
--- a ring has the same number where there are as many channels
-pub ring-same : (links other : InFlight) (channels ring link : ℕ) → links.channels ≡ channels → other.channels ≡ links.channels → ring ≡ ring_of other.channels link → ring ≡ ring_of channels link
-ring-same links other channels ring link p q e = e ∙ ap (λ n. ring_of n link) (q ∙ p)
+-- a buffer has the same number where there are as many channels
+pub buffer-same : (links other : InFlight) (channels buffer link : ℕ) → links.channels ≡ channels → other.channels ≡ links.channels → buffer ≡ buffer_of other.channels link → buffer ≡ buffer_of channels link
+buffer-same links other channels buffer link p q e = e ∙ ap (λ n. buffer_of n link) (q ∙ p)

@@ -20,7 +20,7 @@ use Rattle.units.proofs.SpanLaws.Lists.{Sorted-filter}
 use Rattle.units.specs.SpanLaws.Units.{Exists}
 use Rattle.links.specs.InFlight.{is_due}
 use Rattle.units.specs.Flight.{is_at_places, goes_among, among}
-use Rattle.links.specs.Rings.{later_of}
+use Rattle.links.specs.Buffers.{later_of}
 use Rattle.units.specs.Units.{unit_at, unit_count}
 use Rattle.units.proofs.Due.{same_unit, flight-each}
 use Rattle.units.specs.Wakes.{sent_in}

@@ -1,7 +1,6 @@
 -- When a unit acts next, as it tells.
 --     IsFirstActOf machine unit from act      a unit acts first in a cycle, if nothing arrives
 --     IsNextActOf machine unit from act      the first cycle in which a unit acts, if there is one
---     IsInSomeRun part now      a unit stands for its part of some run
 --     MayRest machine from until unit      a unit would do nothing in a span, if nothing arrived at it
 --     SendsNothing machine from until unit      a unit would send nothing in a span, if nothing arrived at it
 use Rattle.std.specs.Prelude.{ℕ, suc, ◌≤◌, Option, Some, None}
@@ -30,9 +29,3 @@ pub record IsFirstActOf (machine : Machine) (unit : MachineUnit) (from act : ℕ
 abbrev pub IsNextActOf : Machine → MachineUnit → ℕ → Option ℕ → Type 0
 IsNextActOf machine unit from (Some act) = IsFirstActOf machine unit from act
 IsNextActOf machine unit from None = (until : ℕ) → from ≤ until → MayRest machine from until unit
-
--- a unit stands for its part of some run
-pub record IsInSomeRun (part : UnitState) (now : ℕ) : Type 0 where
-  pub machine : Machine
-  pub unit : MachineUnit
-  pub stands : IsPart machine unit now part

@@ -1,7 +1,7 @@
 -- A machine whose units stand at cycles of their own, so that a phase touches only those with something to do.
 --     UnitWithWord      a unit, the cycle where it stands, and its wake word
 --     AreTimedUnits now parts units      units that all stand at a cycle
---     HasRunAndTells machine unit from until part held holds send      a unit has run, and tells when it may send again
+--     word_of arrival from send      the word of a unit, by the next arrival and by when it may send
 --     MayWait machine unit known at wake      as far as is known, a unit at cycle `at` may be left alone up to `wake`
 --     Waits machine unit here there unit_with_word      a unit may be left alone up to its word, as far as is known
 --     WaitAll machine first here there units words      all units at places from `first` on may be left alone for now
@@ -19,7 +19,8 @@
 --     NoneIsLater, IsNoLaterAt, IsNoneSooner      words of which one is lowered to an arrival
 --     AreLowered s first sent old new      words lowered to the arrivals of what was sent
 --     IsStill machine now then      nothing is sent in a span, and nothing in flight arrives in it
-use Rattle.std.specs.Prelude.{◌≡◌, ℕ, zero, suc, ◌+◌, ◌^◌, ◌<◌, ◌≤◌, true, Bool, List, [], ◌∷◌, ◌++◌, length, slice_index_or, filter, flat_map, All}
+use Rattle.std.specs.Prelude.{◌≡◌, ℕ, zero, suc, ◌+◌, ◌^◌, ◌<◌, ◌≤◌, min, max, true, Bool, List, [], ◌∷◌, ◌++◌, length, slice_index_or, filter, flat_map, All, Option}
+use Rattle.std.specs.Option.{option_map_or}
 use Rattle.sim_base.specs.declared.config.Config.{Config}
 use Rattle.sim_base.specs.History.{below, is_unit, receiver_of}
 use Rattle.sim_base.specs.declared.message.Message.{Message}
@@ -29,7 +30,7 @@ use Rattle.units.specs.SpanLaws.Flight.{left_after}
 use Rattle.units.specs.SpanLaws.Mail.{mail_before, mail_in}
 use Rattle.units.specs.Flight.{fresh, among}
 use Rattle.units.specs.Parts.{IsPart, HasRunOnto}
-use Rattle.links.specs.Rings.{later_of}
+use Rattle.links.specs.Buffers.{later_of}
 use Rattle.units.specs.Quiet.{SendsNothing}
 use Rattle.units.specs.Runs.{flight_at, sent_at}
 use Rattle.units.specs.Units.{unit_at, unit_count}
@@ -58,14 +59,10 @@ unit_with_word unit word = record { part = unit.part; at = unit.at; wake = word 
 abbrev pub unit_with_word_at : List TimedUnit → List ℕ → ℕ → TimedUnit → UnitWithWord
 unit_with_word_at units words k d = unit_with_word (slice_index_or units k d) (slice_index_or words k 0)
 
--- A unit stands at the end of a span, and what it sends in it is put behind what a list held before. It sends nothing
--- more before cycle `send`, if nothing arrives at it.
-pub record HasRunAndTells
-    (machine : Machine) (unit : MachineUnit) (from until : ℕ) (part : UnitState) (held holds : List Message) (send : ℕ)
-    : Type 0 where
-  pub onto : HasRunOnto machine unit from until part held holds
-  pub since : until ≤ send
-  pub silent : SendsNothing machine until send unit
+-- The word of a unit that stands at cycle `from` and sends nothing before `send`, if nothing arrives: the cycle of the
+-- next arrival, which is not before `from`, or `send`, if that comes sooner.
+abbrev pub word_of : Option ℕ → ℕ → ℕ → ℕ
+word_of arrival from send = option_map_or (λ cycle. min (max cycle from) send) arrival send
 
 -- of what is sent in the first `known` cycles of a run, what arrives at a unit before a cycle
 abbrev pub arrived_at : Machine → ℕ → MachineUnit → ℕ → List Message

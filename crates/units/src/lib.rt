@@ -9,7 +9,6 @@ mod drained;
 mod ending;
 pub mod lane_scan;
 pub mod machine;
-pub mod message_lists;
 pub mod part;
 pub mod sim;
 pub mod span;

@@ -1,6 +1,6 @@
 //! A unit of a machine, with what is kept of it.
 
-ghost use Rattle.std.specs.Prelude.{OnOk};
+ghost use Rattle.std.specs.Prelude.{[], OnOk};
 ghost use Rattle.sim_base.specs.declared.message.Unit.{Unit as MachineUnit};
 ghost use Rattle.units.specs.Parts.{IsReady, IsReadyFor, HasRunOnto};
 ghost use Rattle.units.specs.declared.machine.Machine.{Machine};
@@ -8,6 +8,7 @@ ghost use Rattle.units.specs.declared.machine.Machine.{Machine};
 use channel_step::channel::Channel;
 use command_table::list::CommandList;
 use core_window::core_unit::Core;
+use core_window::receive::Arriving;
 use sim_base::message::{Cycle, Message};
 use std::alloc::AllocError;
 
@@ -20,25 +21,28 @@ pub enum UnitState {
 }
 
 impl UnitState {
-    /// Runs the unit over a span, in which these messages arrive at it, and puts what it sends behind what a list
-    /// holds.
-    #[inline(always)]
-    pub fn run(
+    /// Runs the unit over a span, in which nothing arrives at it, and puts what it sends behind what a list holds.
+    pub fn run_alone(
         &mut self,
-        inbox: &[Message],
         from: Cycle,
         until: Cycle,
         sent: &mut Vec<Message>,
     ) -> Result<(), AllocError>
-        requires ready { IsReady self.old inbox.now from until }
+        requires ready { IsReady self.old [] from until }
         ensures { (machine : Machine) (unit : MachineUnit)
-            → IsReadyFor machine unit self.old inbox.now from until
+            → IsReadyFor machine unit self.old [] from until
             → OnOk result (HasRunOnto machine unit from until self.new
             sent.old.items sent.new.items) }
     {
         match self {
-            UnitState::Core(core) => core.run(inbox, from, until, sent),
-            UnitState::Channel(channel, issued) => channel.run(inbox, from..until, issued, sent),
+            UnitState::Core(core) => {
+                let nothing = Arriving {
+                    replies: &[],
+                    credits: &[],
+                };
+                core.run(nothing, from, until, sent)
+            }
+            UnitState::Channel(channel, issued) => channel.run(&[], from..until, issued, sent),
         }
     }
 }

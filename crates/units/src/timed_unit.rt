@@ -1,19 +1,16 @@
 //! A unit that stands at a cycle of its own.
 
 ghost use Rattle.std.specs.Prelude.{◌≡◌, ◌<◌, ◌≤◌, ◌^◌, IfOk, OnOk};
-ghost use Rattle.sim_base.specs.declared.message.Unit.{Unit as MachineUnit};
-ghost use Rattle.units.specs.Parts.{IsPart, IsPartAt, IsReady, IsReadyFor};
-ghost use Rattle.units.specs.Quiet.{IsInSomeRun, SendsNothing};
+ghost use Rattle.units.specs.Parts.{IsPartAt};
 ghost use Rattle.units.specs.Units.{unit_count};
-ghost use Rattle.units.specs.declared.machine.Machine.{Machine};
-ghost use Rattle.units.specs.GoingOn.{MayBeWoken, MayBeBroughtUp, HoldsInboxOver, GoesOnOver, NothingArrives, links_taken};
-ghost use Rattle.units.specs.Wakes.{HasRunAndTells, unit_with_word};
+ghost use Rattle.units.specs.GoingOn.{MayBeWoken, MayBeBroughtUp, HoldsInboxOver, GoesOnOver, links_taken};
+ghost use Rattle.units.specs.Wakes.{unit_with_word, word_of};
 
-use crate::machine::{Machine, unit_at};
-use crate::message_lists::MessageLists;
+use crate::machine::Machine;
 use crate::part::UnitState;
+use core_window::receive::Arriving;
 use links::flight::Links;
-use sim_base::message::{Cycle, Message, Unit};
+use sim_base::message::{ChannelId, CoreId, Cycle, Message};
 use std::alloc::AllocError;
 
 /// A span over which units of a kind go on: from where they stand up to a cycle, while those that send to them stand
@@ -32,55 +29,20 @@ pub struct TimedUnit {
     pub at: Cycle,
 }
 
-/// The messages in flight to units, and the lists that are reused as units take and send them.
+/// The messages in flight to units, and a list of what is sent in a span, which each span reuses.
 #[derive(Drop)]
 pub struct Traffic {
     pub links: Links,
-    pub lists: MessageLists,
+    pub sent: Vec<Message>,
 }
 
-/// A cycle, not before `from`, where the unit stands, before which it sends nothing, if nothing arrives at it; the
-/// last of all words, where it never does.
-fn send_word(part: &mut UnitState, from: Cycle) -> Cycle
-    requires stands { IsInSomeRun part.old from }
-    ensures same { part.new ≡ part.old }
-    ensures silent { (machine : Machine) (unit : MachineUnit) → IsPart machine unit from part.old
-        → SendsNothing machine from result unit }
-    ensures since { from ≤ result }
+/// The word of a unit that stands at a cycle and sends nothing before `send`, if nothing arrives: the cycle of the next
+/// arrival, which is not before it, or `send`, if that comes sooner.
+#[inline(always)]
+fn word_of(arrival: Option<Cycle>, from: Cycle, send: Cycle) -> Cycle
+    ensures { result ≡ word_of arrival from send }
 {
-    match part {
-        UnitState::Core(core) => core.silent_until(from),
-        UnitState::Channel(channel, _) => channel.next_act(from).unwrap_or(Cycle::MAX),
-    }
-}
-
-/// Runs a unit over a span, in which these messages arrive at it, and puts what it sends behind what a list holds.
-/// Gives a cycle, not before the end of the span, before which it sends nothing more, if nothing arrives at it.
-fn run_and_tell(
-    part: &mut UnitState,
-    inbox: &[Message],
-    from: Cycle,
-    until: Cycle,
-    sent: &mut Vec<Message>,
-) -> Result<Cycle, AllocError>
-    requires ready { IsReady part.old inbox.now from until }
-    ensures { (machine : Machine) (unit : MachineUnit)
-        → IsReadyFor machine unit part.old inbox.now from until
-        → IfOk result (HasRunAndTells machine unit from until part.new
-        sent.old.items sent.new.items) }
-{
-    part.run(inbox, from, until, sent)?;
-    Ok(send_word(part, until))
-}
-
-/// The first cycle from `from` on in which a message in flight may arrive at a unit, or a cycle that comes sooner.
-fn arrival_word(links: &Links, unit: Unit, from: Cycle, send: Cycle) -> Cycle
-    requires { from ≤ send }
-    ensures since { from ≤ result }
-    ensures within { result ≤ send }
-    ensures first { NothingArrives links.now unit from result }
-{
-    match links.next_arrival_at(unit) {
+    match arrival {
         Some(arrival) => arrival.max(from).min(send),
         None => send,
     }
@@ -103,26 +65,39 @@ impl TimedUnit {
         requires holds_inbox { HoldsInboxOver machine.now place span.now traffic.old.links }
         ensures has_run { IfOk result (λ wake.
             GoesOnOver machine.now place span.now (unit_with_word self.new wake)
-            traffic.old.lists.sent.items traffic.new.lists.sent.items) }
+            traffic.old.sent.items traffic.new.sent.items) }
         ensures links { OnOk result (
             traffic.new.links ≡ links_taken machine.now place span.now traffic.old.links) }
     {
-        let until = span.until;
-        let unit = unit_at(&machine.config, place);
-        let Traffic { links, lists } = traffic;
-        let MessageLists { inbox, sent } = lists;
-        inbox.clear();
-        links.take_due_into(unit, until, inbox)?;
-        let send = run_and_tell(&mut self.part, inbox, self.at, until, sent)?;
+        let (from, until) = (self.at, span.until);
         self.at = until;
-        Ok(arrival_word(links, unit, until, send))
+        let Traffic { links, sent } = traffic;
+        match &mut self.part {
+            UnitState::Core(core) => {
+                let id = place as CoreId;
+                let (replies, credits) = links.due_at_core(id, until);
+                core.run(Arriving { replies, credits }, from, until, sent)?;
+                let (replies, credits) = (replies.len(), credits.len());
+                let arrival = links.drop_due_at_core(id, until, replies, credits);
+                Ok(word_of(arrival, until, core.silent_until(until)))
+            }
+            UnitState::Channel(channel, issued) => {
+                let id = (place - usize::from(machine.config.cores)) as ChannelId;
+                let requests = links.due_at_channel(id, until);
+                channel.run(requests, from..until, issued, sent)?;
+                let count = requests.len();
+                let arrival = links.drop_due_at_channel(id, until, count);
+                let send = channel.next_act(until).unwrap_or(Cycle::MAX);
+                Ok(word_of(arrival, until, send))
+            }
+        }
     }
 
     /// The unit at a cycle before which nothing arrives at it.
     pub fn brought_up(
         self,
         machine: &Machine,
-        lists: &mut MessageLists,
+        sent: &mut Vec<Message>,
         place: usize,
         now: Cycle,
     ) -> Result<UnitState, AllocError>
@@ -132,8 +107,7 @@ impl TimedUnit {
         ensures { IfOk result (IsPartAt machine.now place now) }
     {
         let TimedUnit { mut part, at, .. } = self;
-        lists.inbox.clear();
-        part.run(&lists.inbox, at, now, &mut lists.sent)?;
+        part.run_alone(at, now, sent)?;
         Ok(part)
     }
 }

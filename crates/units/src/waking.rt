@@ -8,10 +8,9 @@ ghost use Rattle.units.specs.Wakes.{AreTimedUnits, WaitAll};
 
 use crate::lane_scan::first_below;
 use crate::machine::Machine;
-use crate::message_lists::MessageLists;
 use crate::part::UnitState;
 use crate::timed_unit::{Span, TimedUnit, Traffic};
-use sim_base::message::Cycle;
+use sim_base::message::{Cycle, Message};
 use std::alloc::{AllocError, Global};
 
 /// Units at consecutive places of a machine, each with its wake word: a cycle before which it sends nothing, and
@@ -74,7 +73,7 @@ pub fn go_on(
     requires early { span.now.until ≤ 10 ^ 12 }
     requires wait { WaitAllAt machine.now span.now range.old }
     requires holds_inbox { HoldInboxesOver machine.now span.now range.old traffic.old.links }
-    requires sent { traffic.old.lists.sent.items ≡ [] }
+    requires sent { traffic.old.sent.items ≡ [] }
     ensures first { range.new.first ≡ range.old.first }
     ensures count { length range.new.units.items ≡ length range.old.units.items }
     ensures words { length range.new.words.items ≡ length range.old.words.items }
@@ -82,7 +81,7 @@ pub fn go_on(
     ensures links { OnOk result (
         traffic.new.links ≡ links_taken_by machine.now span.now range.old traffic.old.links) }
     ensures sent { OnOk result (
-        traffic.new.lists.sent.items ≡ sent_over machine.now span.now range.old) }
+        traffic.new.sent.items ≡ sent_over machine.now span.now range.old) }
 {
     let first = range.first;
     let mut place = next_waking(&range.words, 0, span.until);
@@ -97,7 +96,7 @@ pub fn go_on(
 /// Units brought up to the cycle where the machine stands, behind those of a list, which come before them.
 pub fn bring_up(
     machine: &Machine,
-    lists: &mut MessageLists,
+    sent: &mut Vec<Message>,
     range: UnitRange,
     now: Cycle,
     parts: &mut Vec<UnitState>,
@@ -116,7 +115,7 @@ pub fn bring_up(
     let UnitRange { units, .. } = range;
     for unit in units {
         let place = parts.len();
-        parts.push(unit.brought_up(machine, lists, place, now)?)?;
+        parts.push(unit.brought_up(machine, sent, place, now)?)?;
     }
     Ok(())
 }

@@ -3,7 +3,7 @@
 ghost use Rattle.std.specs.Prelude.{◌≡◌, ℕ, ◌≤◌, ◌<◌, ◌+◌, ◌^◌, ◌/◌, ◌%◌, length, IfSome, IfNone, OnOk};
 ghost use Rattle.std.specs.List.Sorted.{IsPermutation};
 ghost use Rattle.links.specs.InFlight.{with_sent};
-ghost use Rattle.links.specs.Rings.{ring_of};
+ghost use Rattle.links.specs.Buffers.{buffer_of};
 ghost use Rattle.units.specs.Units.{unit_count};
 ghost use Rattle.units.specs.GoingOn.{IsReceiver, HasNoReceiver};
 ghost use Rattle.units.specs.Wakes.{AreLowered, NoneIsLater, IsNoLaterAt, IsNoneSooner};
@@ -58,20 +58,20 @@ pub fn receiver_place(config: &Config, link: LinkId) -> Option<usize>
     place_at(config, channel_bits(config), link)
 }
 
-/// The place of the unit whose messages stand in a ring of the links, if the machine has it.
+/// The place of the unit whose messages stand in a buffer of the links, if the machine has it.
 #[inline(always)]
-fn place_of_ring(config: &Config, ring: usize) -> Option<usize>
-    ensures some { (link : ℕ) → ring ≡ ring_of config.now.channels link
+fn place_of_buffer(config: &Config, buffer: usize) -> Option<usize>
+    ensures some { (link : ℕ) → buffer ≡ buffer_of config.now.channels link
         → IfSome result (IsReceiver config.now link) }
-    ensures none { (link : ℕ) → ring ≡ ring_of config.now.channels link
+    ensures none { (link : ℕ) → buffer ≡ buffer_of config.now.channels link
         → IfNone result (HasNoReceiver config.now link) }
 {
     let channels = usize::from(config.channels);
     let cores = usize::from(config.cores);
-    if ring < channels {
-        return Some(cores + ring);
+    if buffer < channels {
+        return Some(cores + buffer);
     }
-    let core = (ring - channels) / 2;
+    let core = (buffer - channels) / 2;
     if core < cores { Some(core) } else { None }
 }
 
@@ -104,8 +104,13 @@ fn take_up_each(
     ensures links { OnOk result (links.new ≡ with_sent links.old sent.now) }
 {
     for message in sent {
-        let ring = links.put(message)?;
-        lower(first, words, place_of_ring(config, ring), message.arrival);
+        let buffer = links.put(message)?;
+        lower(
+            first,
+            words,
+            place_of_buffer(config, buffer),
+            message.arrival,
+        );
     }
     Ok(())
 }

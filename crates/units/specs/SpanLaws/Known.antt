@@ -7,7 +7,7 @@ use Rattle.sim_base.specs.History.{is_to, by_age}
 use Rattle.sim_base.specs.declared.message.Unit.TheVariants.{Core, Channel}
 use Rattle.sim_base.specs.declared.trace.Entry.{Entry}
 use Rattle.units.specs.SpanLaws.Mail.{mail_before, mail_in, arriving}
-use Rattle.links.specs.Rings.{due_of}
+use Rattle.links.specs.Buffers.{due_of}
 use Rattle.units.specs.SpanLaws.Sent.{requests_sent, answers_sent, RequestsTravelFor, AnswersTakeFor}
 
 -- Where no request travels for less than `least` cycles, what arrives at a channel before a cycle is exactly what the

@@ -14,7 +14,7 @@ use Rattle.sim_base.specs.Machine.{run}
 use Rattle.sim_base.specs.declared.message.Message.{Message}
 use Rattle.sim_base.specs.declared.message.Unit.{Unit as MachineUnit}
 use Rattle.sim_base.specs.declared.trace.Entry.{Entry}
-use Rattle.links.specs.Rings.{due_of}
+use Rattle.links.specs.Buffers.{due_of}
 
 -- the messages that arrive in the cycles from `from` up to `until`
 abbrev pub arriving : ℕ → ℕ → List Message → List Message

@@ -1,5 +1,5 @@
 use Rattle.std.proofs.Common.{get_or, ap, subst, ◌∙◌}
-use Rattle.links.specs.Rings.{CanTakeUp}
+use Rattle.links.specs.Buffers.{CanTakeUp}
 use Rattle.links.proofs.Counted.{can_take_up, counted_room}
 use Rattle.links.proofs.flight.make_room_for.Goals as goal
 
@@ -11,4 +11,4 @@ returns-in_ok-make_room_for_all-clause-room c = can_take_up _ _ _ c.in_ok-make_r
 
 pub returns-else-not-is_room_for-clause-room : goal.returns-else-not-is_room_for-clause-room
 returns-else-not-is_room_for-clause-room c =
-    subst (λ rings. CanTakeUp c.args.channels rings c.args.messages.now) c.deref-2.ensures.value (can_take_up _ _ _ (c.is_room_for.ensures c.if-not-is_room_for.false))
+    subst (λ buffers. CanTakeUp c.args.channels buffers c.args.messages.now) c.deref-2.ensures.value (can_take_up _ _ _ (c.is_room_for.ensures c.if-not-is_room_for.false))

@@ -1,5 +1,5 @@
 use Rattle.std.proofs.Common.{length, subst}
-use Rattle.links.specs.Rings.{HasRoom}
+use Rattle.links.specs.Buffers.{HasRoom}
 use Rattle.links.proofs.Room.{Grows-trans, HaveRoom-grows, room_more}
 use Rattle.links.proofs.flight.make_room_for_all.Goals as goal
 
@@ -11,5 +11,5 @@ loop-message-preserved c = record {
   grows = Grows-trans _ _ _ c.loop-message.invariant.grows c.make_room_at.ensures.grows;
   room = room_more _ _ _ _ _ _ c.loop-message-test.true
       (HaveRoom-grows _ _ _ _ _ c.make_room_at.ensures.grows c.loop-message.invariant.room)
-      (subst (λ number. HasRoom c.make_room_at.new.rings.items number (length c.args.messages.now)) c.number_of-number.ensures.number c.in_ok-make_room_at.ensures.room);
+      (subst (λ number. HasRoom c.make_room_at.new.buffers.items number (length c.args.messages.now)) c.number_of-number.ensures.number c.in_ok-make_room_at.ensures.room);
 }

@@ -1,9 +1,9 @@
 use Rattle.std.proofs.Common.{length, take}
-use Rattle.links.specs.Rings.{HaveRoom, Grows}
+use Rattle.links.specs.Buffers.{HaveRoom, Grows}
 use Rattle.links.proofs.flight.make_room_for_all.Given as goal
 
 abbrev pub invariant-loop-message : goal.invariant-loop-message
 invariant-loop-message l = record {
-  grows : Grows l.initial.rings.items l.rings.items;
-  room : HaveRoom l.channels l.rings.items (length l.messages) (take l.message-index l.messages);
+  grows : Grows l.initial.buffers.items l.buffers.items;
+  room : HaveRoom l.channels l.buffers.items (length l.messages) (take l.message-index l.messages);
 }

@@ -1,5 +1,5 @@
 use Rattle.std.proofs.Common.{◌≡◌, length}
-use Rattle.links.specs.Rings.{AreNumbers}
+use Rattle.links.specs.Buffers.{AreNumbers}
 use Rattle.links.proofs.flight.numbers_of.Given as goal
 
 abbrev pub invariant-loop-link : goal.invariant-loop-link

@@ -2,7 +2,7 @@ use Rattle.std.proofs.Common.{◌≡◌, sym, subst, ap, ◌∙◌, rules}
 use Rattle.std.specs.Prelude.{IfOk}
 use Rattle.std.specs.List.{AllByRecursion as Each}
 use Rattle.sim_base.specs.History.{by_age}
-use Rattle.links.specs.Rings.{contents}
+use Rattle.links.specs.Buffers.{contents}
 use Rattle.links.proofs.Merging.{messages_of_halves, messages_of_none, in_order-take, in_order-drop}
 use Rattle.links.proofs.merge.+messages_of.Goals as goal
 use Rattle.links.proofs.Ages.{by_age-twice}
@@ -10,13 +10,13 @@ use Rattle.links.proofs.Ages.{by_age-twice}
 pub messages_of-requires : goal.messages_of-requires
 messages_of-requires t c = (
   search (rules, c.split_at.ensures.front_len),
-  subst (λ rings. Each (λ ms. by_age ms ≡ ms) (contents rings)) (sym c.split_at.ensures.front) (in_order-take _ _ c.requires),
+  subst (λ buffers. Each (λ ms. by_age ms ≡ ms) (contents buffers)) (sym c.split_at.ensures.front) (in_order-take _ _ c.requires),
 )
 
 pub messages_of-requires-in_default : goal.messages_of-requires-in_default
 messages_of-requires-in_default t c = (
   search (rules, c.split_at.ensures.back_len),
-  subst (λ rings. Each (λ ms. by_age ms ≡ ms) (contents rings)) (sym c.split_at.ensures.back) (in_order-drop _ _ c.requires),
+  subst (λ buffers. Each (λ ms. by_age ms ≡ ms) (contents buffers)) (sym c.split_at.ensures.back) (in_order-drop _ _ c.requires),
 )
 
 pub merged-requires : goal.merged-requires

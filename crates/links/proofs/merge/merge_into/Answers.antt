@@ -61,5 +61,5 @@ append_all-requires-2 c =
 pub returns : goal.returns
 returns c =
     c.append_all-2.ensures.items
-    ∙ ap₂ (λ xs ys. xs ++ ys) (c.append_all.ensures.items ∙ ap (λ xs. c.loop-a.inbox.items ++ xs) (take_rest c.args.first.now c.loop-a.i)) (take_rest c.args.second.now c.loop-a.j)
+    ∙ ap₂ (λ xs ys. xs ++ ys) (c.append_all.ensures.items ∙ ap (λ xs. c.loop-a.all.items ++ xs) (take_rest c.args.first.now c.loop-a.i)) (take_rest c.args.second.now c.loop-a.j)
     ∙ Merges-end _ _ _ _ _ c.loop-a.invariant.merges (sym c.are_left.ensures ∙ c.loop-a-test.false)

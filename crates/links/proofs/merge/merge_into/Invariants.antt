@@ -5,8 +5,8 @@ use Rattle.links.proofs.merge.merge_into.Given as goal
 
 abbrev pub invariant-loop-a : goal.invariant-loop-a
 invariant-loop-a l = record {
-  merges : Merges l.i l.j l.first l.second l.inbox.items;
-  room : vec_len l.inbox + (length l.first - l.i + (length l.second - l.j)) ≤ vec_capacity l.inbox;
+  merges : Merges l.i l.j l.first l.second l.all.items;
+  room : vec_len l.all + (length l.first - l.i + (length l.second - l.j)) ≤ vec_capacity l.all;
 }
 
 abbrev pub decreases-loop-a : goal.decreases-loop-a

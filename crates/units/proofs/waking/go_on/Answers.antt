@@ -11,7 +11,7 @@ loop-place-init c =
     let machine = c.args.machine.now in
     let range = c.args.range.now in
     let span = c.args.span.now in
-    let sent = c.args.traffic.now.lists.sent.items in
+    let sent = c.args.traffic.now.sent.items in
     let links = c.args.traffic.now.links in
     let r = c.requires in
     let next = c.next_waking-place in
@@ -36,13 +36,13 @@ loop-place-preserved c =
     let taken = at.invariant.1 in
     let unit = c.woken.new.self in
     let wake = c.in_ok-word.word in
-    let sent = c.woken.new.traffic.lists.sent.items in
+    let sent = c.woken.new.traffic.sent.items in
     let links = c.woken.new.traffic.links in
     let next = c.next_waking-place-in-loop-place in
     let words = c.deref-in-loop-place.ensures.value in (
       at.invariant.0,
       passed-over machine first n span.here span.there span.until (set at.range.units.items at.place unit) (set at.range.words.items at.place wake) sent old links (at.place + 1) next.result r.order r.holds_inbox
-          (taken-one machine first n span.here span.there span.until at.range.units.items at.range.words.items at.traffic.lists.sent.items sent old at.traffic.links links at.place unit wake
+          (taken-one machine first n span.here span.there span.until at.range.units.items at.range.words.items at.traffic.sent.items sent old at.traffic.links links at.place unit wake
           (omega (arith, c.loop-place-test.true, at.range.units.ok.0)) c.in_ok-word.ensures.has_run
           (taken-links machine.config first span.here span.until at.place old at.traffic.links links taken.links_so_far c.in_ok-word.ensures.links) taken)
           next.ensures.since
@@ -79,7 +79,7 @@ returns-clause-wait c =
     let span = c.args.span.now in
     let at = c.loop-place in
     subst (λ first. WaitAll machine first span.until span.there at.range.units.items at.range.words.items) (sym at.invariant.0)
-    (taken-all machine range.first (length range.units.items) span.here span.there span.until at.range.units.items at.range.words.items at.traffic.lists.sent.items c.args.traffic.now.links at.traffic.links at.place at.invariant.1
+    (taken-all machine range.first (length range.units.items) span.here span.there span.until at.range.units.items at.range.words.items at.traffic.sent.items c.args.traffic.now.links at.traffic.links at.place at.invariant.1
     (omega (arith, c.loop-place-test.false, at.range.units.ok.0))).0
 
 pub returns-clause-links : goal.returns-clause-links
@@ -87,7 +87,7 @@ returns-clause-links c =
     let range = c.args.range.now in
     let span = c.args.span.now in
     let at = c.loop-place in
-    (taken-all c.args.machine.now range.first (length range.units.items) span.here span.there span.until at.range.units.items at.range.words.items at.traffic.lists.sent.items c.args.traffic.now.links at.traffic.links at.place at.invariant.1
+    (taken-all c.args.machine.now range.first (length range.units.items) span.here span.there span.until at.range.units.items at.range.words.items at.traffic.sent.items c.args.traffic.now.links at.traffic.links at.place at.invariant.1
     (omega (arith, c.loop-place-test.false, at.range.units.ok.0))).1
 
 pub returns-clause-sent : goal.returns-clause-sent
@@ -95,5 +95,5 @@ returns-clause-sent c =
     let range = c.args.range.now in
     let span = c.args.span.now in
     let at = c.loop-place in
-    (taken-all c.args.machine.now range.first (length range.units.items) span.here span.there span.until at.range.units.items at.range.words.items at.traffic.lists.sent.items c.args.traffic.now.links at.traffic.links at.place at.invariant.1
+    (taken-all c.args.machine.now range.first (length range.units.items) span.here span.there span.until at.range.units.items at.range.words.items at.traffic.sent.items c.args.traffic.now.links at.traffic.links at.place at.invariant.1
     (omega (arith, c.loop-place-test.false, at.range.units.ok.0))).2

@@ -112,9 +112,9 @@ invariant_of-result c =
     let many : length c.sort_sent.new.lists ≡ length f.inbound.items = sorted_by_shard.count ∙ ap length c.deref_mut-4.ensures.value ∙ many-up in
     let lists = with_items_is (with_items f.inbound c.take_up.new.lists) c.sort_sent.new.lists (many ∙ sym f.inbound.ok.0) in
     let sorted_by_shard-after : HoldWhatWasSent after c.sort_sent.new.lists = subst (λ (x : Shard). HoldWhatWasSent x c.sort_sent.new.lists) c.deref.ensures sorted_by_shard.each in
-    let each : AreSortedByShard m.config shard.bounds.items after.traffic.lists.sent.items c.sort_sent.new.lists =
-    subst (λ (x : Vec ℕ Global). AreSortedByShard m.config x.items after.traffic.lists.sent.items c.sort_sent.new.lists) bounds
-    (subst (λ (x : Arc Machine Global). AreSortedByShard (arc_value x).config after.bounds.items after.traffic.lists.sent.items c.sort_sent.new.lists) machine sorted_by_shard-after) in
+    let each : AreSortedByShard m.config shard.bounds.items after.traffic.sent.items c.sort_sent.new.lists =
+    subst (λ (x : Vec ℕ Global). AreSortedByShard m.config x.items after.traffic.sent.items c.sort_sent.new.lists) bounds
+    (subst (λ (x : Arc Machine Global). AreSortedByShard (arc_value x).config after.bounds.items after.traffic.sent.items c.sort_sent.new.lists) machine sorted_by_shard-after) in
     let ends = job-ends m shard.bounds.items f.name c.in_ok-wake.wake shard after f.inbound.items c.sort_sent.new.lists c.self.invariant machine bounds first count has_run sent went.since went.sleep went.arrivals many each in
     subst (IsDone (arc_value after.machine) after.bounds.items f.name c.in_ok-wake.wake after) (sym lists)
     (subst (λ (x : Vec ℕ Global). IsDone (arc_value after.machine) x.items f.name c.in_ok-wake.wake after c.sort_sent.new.lists) (sym bounds)

@@ -21,7 +21,7 @@ returns-clause-since c =
     subst (All (λ w. until ≤ w)) (sym c.deref-3.ensures.value) (has_run-words c.deref.result.now range.first now until range.units.items range.words.items traffic.links has_run.has_run) in
     let sent : c.deref-2.result.now ≡ sent_by m now until old.range.first (length old.range.units.items) =
     c.deref-2.ensures.value
-    ∙ subst (λ (y : Machine). traffic.lists.sent.items ≡ sent_by y now until old.range.first (length old.range.units.items)) c.deref.ensures has_run.sent in
+    ∙ subst (λ (y : Machine). traffic.sent.items ≡ sent_by y now until old.range.first (length old.range.units.items)) c.deref.ensures has_run.sent in
     let arrive : All (λ m. until ≤ m.arrival) c.deref-2.result.now =
     subst (All (λ (y : Message). until ≤ y.arrival)) (sym sent)
     (part-late m now until old.range.first (length old.range.units.items) c.requires.between_phases.within (omega (arith, c.requires.order)) c.requires.travels) in
