@@ -311,26 +311,8 @@ fn is_any_busy(counts: &[usize]) -> bool
     counts.iter().any(|count| *count > FEW_MESSAGES)
 }
 
-/// Sorts messages by arrival where more than a few of them go to one buffer.
-#[inline(never)]
-fn sort_if_many(
-    alloc: Global,
-    numbers: &[usize],
-    channels: u16,
-    messages: &mut [Message],
-) -> Result<(), AllocError>
-    requires { HasBufferNumbers channels numbers.now }
-    ensures same { IsPermutation messages.old messages.new }
-    ensures puts { JoinAlike messages.old messages.new }
-{
-    let counts = count_by_buffer(alloc, numbers, channels, messages)?;
-    if is_any_busy(&counts) {
-        sort_by_arrival(alloc, messages)?;
-    }
-    Ok(())
-}
-
-/// Puts messages in the order in which they are to be put into the buffers.
+/// Puts messages in the order in which they are to be put into the buffers: by arrival, where more than a few of them go
+/// to one buffer, and otherwise in that in which they come.
 #[inline(always)]
 fn put_in_order(
     alloc: Global,
@@ -342,8 +324,12 @@ fn put_in_order(
     ensures same { IsPermutation messages.old messages.new }
     ensures puts { JoinAlike messages.old messages.new }
 {
-    if messages.len() > FEW_MESSAGES {
-        sort_if_many(alloc, numbers, channels, messages)?;
+    if messages.len() <= FEW_MESSAGES {
+        return Ok(());
+    }
+    let counts = count_by_buffer(alloc, numbers, channels, messages)?;
+    if is_any_busy(&counts) {
+        sort_by_arrival(alloc, messages)?;
     }
     Ok(())
 }

@@ -22,32 +22,11 @@ fn channel_bits(config: &Config) -> u32
     config.channels.ilog2()
 }
 
-/// The core of a link, where the number of a channel takes `bits` bits.
-fn core_of(config: &Config, bits: u32, link: LinkId) -> u64
-    requires channels { config.now.channels ≡ 2 ^ bits }
-    requires few { bits < 32 }
+/// The core of a link.
+fn core_of(config: &Config, link: LinkId) -> u64
     ensures { result ≡ link / 3 / config.now.channels }
 {
-    (link / 3) >> bits
-}
-
-/// The place of the unit that a link leads to, if the machine has it. The number of a channel takes `bits` bits.
-fn place_at(config: &Config, bits: u32, link: LinkId) -> Option<usize>
-    requires channels { config.now.channels ≡ 2 ^ bits }
-    requires few { bits < 32 }
-    ensures some { IfSome result (IsReceiver config.now link) }
-    ensures none { IfNone result (HasNoReceiver config.now link) }
-{
-    let cores = u64::from(config.cores);
-    if link % 3 == 0 {
-        return Some((cores + channel_of(config, link)) as usize);
-    }
-    let core = core_of(config, bits, link);
-    if core < cores {
-        Some(core as usize)
-    } else {
-        None
-    }
+    (link / 3) >> channel_bits(config)
 }
 
 /// The place of the unit that a link leads to, if the machine has it.
@@ -55,7 +34,16 @@ pub fn receiver_place(config: &Config, link: LinkId) -> Option<usize>
     ensures some { IfSome result (IsReceiver config.now link) }
     ensures none { IfNone result (HasNoReceiver config.now link) }
 {
-    place_at(config, channel_bits(config), link)
+    let cores = u64::from(config.cores);
+    if link % 3 == 0 {
+        return Some((cores + channel_of(config, link)) as usize);
+    }
+    let core = core_of(config, link);
+    if core < cores {
+        Some(core as usize)
+    } else {
+        None
+    }
 }
 
 /// The place of the unit whose messages stand in a buffer of the links, if the machine has it.
