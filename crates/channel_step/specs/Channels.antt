@@ -8,11 +8,11 @@
 --     ForPasts c fact      a fact of each past that a channel may have
 --     StandForTheSame old new      a channel has each past that it had
 --     PartsStand c s history      the parts of a channel stand for a configuration and its commands so far
---     HasMore c s history earlier older      the requests from place `older` on have joined the queue of a channel
+--     HasMore c s history earlier before      requests have joined the queue of a channel
 --     idle_after p from cycle      a past, and cycles in which nothing is issued and nothing arrives
 --     issues_in p from cycle      whether a channel issues a command in a cycle, if nothing arrives
 --     NoneIsIssued s history queue from end      nothing is issued from one cycle up to another
---     StaysNext c older old new      what was known of the next command is right after arrivals too
+--     StaysNext c before old new      what was known of the next command is right after arrivals too
 --     IsNextCommand s history queue from next_command      what is known of the next command is right
 --     IsForeseen s history queue from next_command      what is known of the next command is right, as two facts
 --     Foresees c s history      what a channel knows of its next command is right
@@ -51,7 +51,9 @@ use Rattle.statistics.specs.Channels.{channel_joined, channel_times}
 use Rattle.statistics.specs.declared.channels.ChannelStats.{ChannelStats}
 use Rattle.channel_step.specs.Counted.{cycle_with_hit}
 use Rattle.channel_step.specs.FrFcfs.Choices.{StandFor, choice_in, command_of, IsFor, HasPlace}
-use Rattle.channel_step.specs.FrFcfs.Requests.{IsInBanks}
+use Rattle.channel_step.specs.FrFcfs.Offers.{going}
+use Rattle.channel_step.specs.FrFcfs.Requests.{IsInBanks, candidates_of}
+use Rattle.channel_step.specs.declared.fr_fcfs.arrivals.EarlierQueue.{EarlierQueue}
 use Rattle.channel_step.specs.FrFcfs.Cycles.{IsNext}
 use Rattle.channel_step.specs.declared.fr_fcfs.choice.Need.{Need}
 use Rattle.request_table.specs.Served.{served_requests}
@@ -130,20 +132,22 @@ IsFound c s history now next =
 abbrev pub PartsStand : Channel → Config → List IssuedCommand → Type 0
 PartsStand c s history = StandFor c.bank_candidates c.banks c.refresh c.queue c.config.groups s history
 
--- The requests from place `older` on have come into the queue of a channel since the queue was `earlier`. The banks and
--- the candidates stand for the commands so far, and the candidates for the queue as it is now.
-pub record HasMore (c : Channel) (s : Config) (history : List IssuedCommand) (earlier : QueueView) (older : ℕ)
-    : Type 0 where
+-- Requests have come into the queue of a channel since the queue was `earlier`: its log had as many places as `before`
+-- says, and requests of its accesses went. The banks and the candidates stand for the commands so far, and the
+-- candidates for the queue as it is now.
+pub record HasMore (c : Channel) (s : Config) (history : List IssuedCommand) (earlier : QueueView)
+    (before : EarlierQueue) : Type 0 where
   pub banks_stand : BanksStandFor c.banks s history
   pub candidates_stand : CandidatesStand c.bank_candidates c.queue.log history
   pub high_is : s.write_high ≡ c.queue.high
-  pub earlier_is : earlier.log ≡ take older c.queue.log
+  pub earlier_is : earlier.log ≡ take before.places c.queue.log
+  pub went : candidates_of s earlier ≡ going before.accesses earlier.log
 
--- what was known of the next command of a channel, before the requests from a place of its log on arrived, is right
--- with them too where `new` takes its place
-abbrev pub StaysNext : Channel → ℕ → NextCommand → NextCommand → Type 0
-StaysNext c older old new =
-    (s : Config) (history : List IssuedCommand) (earlier : QueueView) → HasMore c s history earlier older
+-- what was known of the next command of a channel, before requests arrived at a queue that was `before`, is right with
+-- them too where `new` takes its place
+abbrev pub StaysNext : Channel → EarlierQueue → NextCommand → NextCommand → Type 0
+StaysNext c before old new =
+    (s : Config) (history : List IssuedCommand) (earlier : QueueView) → HasMore c s history earlier before
     → IsNextCommand s history earlier c.cycle old → IsNextCommand s history c.queue c.cycle new
 
 -- these are the requests that these commands served, given the arrival of each request that these messages carry

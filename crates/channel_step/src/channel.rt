@@ -30,7 +30,8 @@ ghost use Rattle.channel_step.specs.Runs.{CanStep, CanRun, ForSpan, IssuesIfNext
 
 use crate::arriving::admit;
 use crate::counting::{Seen, draining_of};
-use crate::fr_fcfs::arrivals::stays;
+use crate::fr_fcfs::accesses::accesses_that_go;
+use crate::fr_fcfs::arrivals::{EarlierQueue, stays};
 use crate::fr_fcfs::choice::{ChannelParts, Need, next};
 use crate::fr_fcfs::needs::refresh_command;
 use crate::next_command::NextCommand;
@@ -540,49 +541,53 @@ impl Channel {
         }
     }
 
-    /// Whether what was found is known to be still the next command, now that the requests from a place on have
-    /// arrived.
+    /// Whether what was found is known to be still the next command, now that requests have arrived.
     #[inline(always)]
-    fn keeps_found(&self, found: Option<(Cycle, Need)>, older: usize) -> bool
+    fn keeps_found(&self, found: Option<(Cycle, Need)>, before: EarlierQueue) -> bool
         requires places { AreInBanks (rank_count self.now.banks) self.now.queue.log }
         requires banks { OfSameBanks self.now.bank_candidates self.now.banks }
         requires found { HasPlace (rank_count self.now.banks) self.now.queue.log found }
-        ensures { IsTrue result → StaysNext self.now older (Known found) (Known found) }
+        ensures { IsTrue result → StaysNext self.now before (Known found) (Known found) }
     {
         match found {
-            Some(next) => stays(&self.queue, &self.bank_candidates, &self.banks, older, next),
+            Some(next) => stays(
+                &self.queue,
+                &self.bank_candidates,
+                &self.banks,
+                before,
+                next,
+            ),
             None => false,
         }
     }
 
-    /// Whether what is known of the next command is still so, now that the requests from a place on have arrived.
+    /// Whether what is known of the next command is still so, now that requests have arrived.
     #[inline(always)]
-    fn keeps(&self, older: usize) -> bool
+    fn keeps(&self, before: EarlierQueue) -> bool
         requires places { AreInBanks (rank_count self.now.banks) self.now.queue.log }
         requires banks { OfSameBanks self.now.bank_candidates self.now.banks }
         requires next_command { NextCommandIsFor (rank_count self.now.banks)
             self.now.queue.log self.now.next_command }
         ensures { IsTrue result
-            → StaysNext self.now older self.now.next_command self.now.next_command }
+            → StaysNext self.now before self.now.next_command self.now.next_command }
     {
         match self.next_command {
-            NextCommand::Known(found) => self.keeps_found(found, older),
+            NextCommand::Known(found) => self.keeps_found(found, before),
             NextCommand::Unknown => false,
         }
     }
 
-    /// Forgets the command that was found, where one of the requests from a place on, which have arrived, may go before
-    /// it.
+    /// Forgets the command that was found, where one of the requests that have arrived may go before it.
     #[inline(always)]
-    fn reconsider(&mut self, older: usize)
+    fn reconsider(&mut self, before: EarlierQueue)
         requires places { AreInBanks (rank_count self.old.banks) self.old.queue.log }
         requires banks { OfSameBanks self.old.bank_candidates self.old.banks }
         requires next_command { NextCommandIsFor (rank_count self.old.banks)
             self.old.queue.log self.old.next_command }
         ensures rest { self.new ≡ record self.old { next_command = self.new.next_command } }
-        ensures next_command { StaysNext self.old older self.old.next_command self.new.next_command }
+        ensures next_command { StaysNext self.old before self.old.next_command self.new.next_command }
     {
-        if !self.keeps(older) {
+        if !self.keeps(before) {
             self.next_command = NextCommand::Unknown;
         }
     }
@@ -627,10 +632,14 @@ impl Channel {
             return 0;
         }
         self.make_room(due);
-        let older = self.queue.log().len();
+        let before = EarlierQueue {
+            places: self.queue.log().len(),
+            accesses: accesses_that_go(&self.queue, &self.bank_candidates),
+        };
         admit(&mut self.queue, &inbox[..due]);
-        self.bank_candidates.on_arrival(older, self.queue.log());
-        self.reconsider(older);
+        self.bank_candidates
+            .on_arrival(before.places, self.queue.log());
+        self.reconsider(before);
         due
     }
 

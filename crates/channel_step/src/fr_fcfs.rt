@@ -1,6 +1,6 @@
 //! First ready, first come, first served: the command of the next cycle, and when there is one.
 
-mod accesses;
+pub mod accesses;
 pub mod arrivals;
 pub mod choice;
 mod first;

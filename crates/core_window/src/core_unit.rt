@@ -445,6 +445,7 @@ impl Core {
     /// Runs the cycles from `from`, where the core stands, up to but not including `until`, below 2^62. The messages
     /// that arrive in these cycles are given; the messages that the core sends in them are put behind what `sent`
     /// holds. The only error is out of memory; what the core and the list hold is then not known.
+    #[inline(always)]
     pub fn run(
         &mut self,
         arriving: Arriving<'_>,

@@ -1,9 +1,9 @@
 -- The steps of the loops over one buffer.
-use Rattle.std.proofs.Common.{ℕ, suc, zero, ◌+◌, ◌-◌, ◌<◌, ◌≤◌, ◌≡◌, Bool, true, false, not, ltb, get_or, set, length, length-set, take, drop, List, [], ◌∷◌, ◌++◌, append-nil, Some, refl, sym, ap, ◌∙◌, subst, arith}
+use Rattle.std.proofs.Common.{ℕ, suc, zero, ◌+◌, ◌-◌, ◌<◌, ◌≤◌, ◌≡◌, ◌⊎◌, inl, inr, Bool, true, false, not, ltb, get_or, set, length, length-set, take, drop, List, [], ◌∷◌, ◌++◌, append-nil, Some, refl, sym, ap, ◌∙◌, subst, arith}
 use Rattle.std.specs.Prelude.{filter, insert, slice_get}
 use Rattle.std.specs.Option.{option_map_or}
 use Rattle.std.specs.List.{take_while, AllByRecursion as Each}
-use Rattle.std.proofs.lemmas.Bool.{cond-true, cond-false, le-ltb, ltb-false, true≢false}
+use Rattle.std.proofs.lemmas.Bool.{cases_lt, cond-true, cond-false, le-ltb, ltb-false, true≢false}
 use Rattle.std.proofs.lemmas.Option.{slice_get-get_or}
 use Rattle.std.proofs.Math.Seq.{drop-append_seam}
 use Rattle.std.proofs.lemmas.List.{get_or_default, get_or-set_other, set-set, length_push, drop-append-le, get_or-drop, length-append, length-drop, length-take-le, take_all, drop_all}
@@ -11,6 +11,7 @@ use Rattle.std.proofs.lemmas.List.Sums.{take_while-cons}
 use Rattle.sim_base.specs.History.{is_before, insert_by_age, by_age}
 use Rattle.sim_base.specs.declared.message.Message.{Message}
 use Rattle.sim_base.proofs.Arrived.{put, fold-puts, not_before_le}
+use Rattle.sim_base.proofs.Lists.{slice_get-drop}
 use Rattle.sim_base.proofs.Ordered.{Each-weaker, Sorted}
 use Rattle.links.specs.InFlight.{arrives_before}
 use Rattle.links.specs.Buffers.{arrives_later, is_younger_last, IsInserted}
@@ -264,6 +265,19 @@ pub put_last : (free : ℕ) (m : Message) (ms places pushed : List Message) → 
     → drop free pushed ≡ insert_by_age ms m
 put_last free m ms places pushed l e f s young =
     ap (drop free) f ∙ drop-append-le free places (m ∷ []) l ∙ ap (λ z. z ++ m ∷ []) (sym e) ∙ placed_last m ms s young
+
+-- places that are free stand before all messages: the last place is that of the last message
+pub last_place : (m : Message) (free : ℕ) (places : List Message) → free ≤ length places → (free ≡ length places → free ≡ 0) → is_younger_last m (drop free places) ≡ is_younger_last m places
+last_place m free places l none =
+    ap (λ o. option_map_or (is_before m) o false)
+    (ap (λ n. slice_get (drop free places) (n - 1)) (length-drop free places) ∙ slice_get-drop places free (length places - free - 1) ∙ ap (slice_get places) (same (cases_lt free (length places))))
+  where
+    same : (free < length places) ⊎ (length places ≤ free) → free + (length places - free - 1) ≡ length places - 1
+    same (inl less) = omega (arith, less)
+    same (inr over) =
+        let all : free ≡ length places = omega (arith, l, over) in
+        let zero_free : free ≡ 0 = none all in
+        omega (arith, zero_free)
 
 -- the last of some messages is put behind them once more
 pub put_twice : (free : ℕ) (y : Message) (ms places pushed : List Message) → free ≤ length places → ms ≡ drop free places → pushed ≡ places ++ y ∷ [] → drop free pushed ≡ ms ++ y ∷ []

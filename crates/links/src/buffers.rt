@@ -20,9 +20,11 @@ const FEW: usize = 32;
 #[derive(Drop)]
 pub struct Buffer {
     places: Vec<Message>,
-    /// How many places stand free before the first message: those of the messages that were taken out.
+    /// How many places stand free before the first message: those of the messages that were taken out. Where no message
+    /// is left, none is free.
     free: usize,
     ghost within: { free ≤ length places.items },
+    ghost none_free: { free ≡ length places.items → free ≡ 0 },
 }
 
 impl Model for Buffer {
@@ -148,7 +150,8 @@ impl Buffer {
         insert_from_back(&mut self.places[self.free..], message);
     }
 
-    /// Puts a message into its place by age, which is the last one unless a younger one stands there.
+    /// Puts a message into its place by age, which is the last one unless a younger one stands there. Places that are
+    /// free stand before all messages, so that the last place is that of the last message.
     #[inline(always)]
     pub fn put_by_age(&mut self, message: &Message)
         requires room { length self.old.items < self.old.capacity }
@@ -156,7 +159,7 @@ impl Buffer {
         ensures items { self.new.items ≡ insert_by_age self.old.items message.now }
         ensures capacity { self.new.capacity ≡ self.old.capacity }
     {
-        if is_before_last(self.as_slice(), message) {
+        if is_before_last(&self.places, message) {
             self.put_among(message);
         } else {
             self.places.push_reserved(*message);

@@ -13,7 +13,6 @@ use Rattle.sim_base.proofs.Lists.{filter-both}
 use Rattle.channel_step.specs.declared.channel.Channel.{Channel as ChannelUnit}
 use Rattle.core_window.specs.declared.core_unit.Core.{Core as CoreUnit}
 use Rattle.links.specs.InFlight.{InFlight, arrives_within, is_due, due_before, without_due, in_flight_to, first_arrival, NoneArrivesBefore}
-use Rattle.units.specs.GoingOn.{NothingArrives}
 use Rattle.units.specs.Parts.{IsPart, IsReadyFor, HasRunOnto}
 use Rattle.units.specs.Quiet.{SendsNothing}
 use Rattle.units.specs.SpanLaws.Mail.{mail_in}
@@ -49,6 +48,11 @@ pub ready : (machine : Machine) (u unit : MachineUnit) (here there until : ℕ) 
     → HoldsInbox machine here there until u links → Waits machine u here there before → unit ≡ u → inbox ≡ due_before links unit until → IsReadyFor machine u before.part inbox before.at until
 ready machine u unit here there until before links inbox k l early holds waits e due =
     woken-ready machine u here there until before inbox k l early holds.known waits (held-mail machine here there until u unit links inbox holds e due)
+
+-- no message in flight arrives at a unit in the cycles from `from` up to `until`
+abbrev pub NothingArrives : InFlight → MachineUnit → ℕ → ℕ → Type 0
+NothingArrives links unit from until =
+    (word : ℕ) → word ≤ until → filter (is_due links.channels unit from word) links.messages ≡ []
 
 -- nothing arrives at a unit before its word
 pub nothing_arrives : (flight : InFlight) (u : MachineUnit) (from send : ℕ) (next : Option ℕ) → from ≤ send → next ≡ first_arrival (in_flight_to flight u)

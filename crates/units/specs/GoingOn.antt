@@ -7,13 +7,11 @@
 --     links_taken machine place span links      the links when the unit at a place has taken what arrives in a span
 --     GoesOnOver machine place span unit_with_word old new      a unit has gone on, and what it sent is added
 --     WaitAllAt, WaitAllPast, HoldInboxesOver, links_taken_by, sent_over      the same of all units of a range
---     NothingArrives links unit from until      no message in flight arrives at a unit in a span
 --     IsReceiver s link place, HasNoReceiver s link      the place of the unit that a link leads to; there is none
 --     GrowsBy count old new      `count` elements are put at the end of a list
-use Rattle.std.specs.Prelude.{◌≡◌, ℕ, ◌+◌, ◌<◌, ◌≤◌, false, List, [], length, filter, not}
+use Rattle.std.specs.Prelude.{◌≡◌, ℕ, ◌+◌, ◌<◌, false, List, length, filter, not}
 use Rattle.sim_base.specs.declared.config.Config.{Config}
 use Rattle.sim_base.specs.declared.message.Message.{Message}
-use Rattle.sim_base.specs.declared.message.Unit.{Unit as MachineUnit}
 use Rattle.sim_base.specs.History.{is_unit, receiver_of}
 use Rattle.links.specs.InFlight.{InFlight, is_due}
 use Rattle.units.specs.Flight.{sent_by}
@@ -82,11 +80,6 @@ links_taken_by machine span range links =
 -- what the units of a range send in a span
 abbrev pub sent_over : Machine → Span → UnitRange → List Message
 sent_over machine span range = sent_by machine span.here span.until range.first (length range.units.items)
-
--- no message in flight arrives at a unit in the cycles from `from` up to `until`
-abbrev pub NothingArrives : InFlight → MachineUnit → ℕ → ℕ → Type 0
-NothingArrives links unit from until =
-    (word : ℕ) → word ≤ until → filter (is_due links.channels unit from word) links.messages ≡ []
 
 -- the unit that a link leads to stands at a place
 abbrev pub IsReceiver : Config → ℕ → ℕ → Type 0

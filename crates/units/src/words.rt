@@ -72,8 +72,10 @@ fn lower(first: usize, words: &mut [Cycle], place: Option<usize>, arrival: Cycle
     ensures since { IsNoneSooner words.old words.new arrival }
 {
     if let Some(place) = place {
-        if first <= place && place - first < words.len() {
-            words[place - first] = words[place - first].min(arrival);
+        // a place before `first` has an index past all words
+        let index = place.wrapping_sub(first);
+        if index < words.len() {
+            words[index] = words[index].min(arrival);
         }
     }
 }

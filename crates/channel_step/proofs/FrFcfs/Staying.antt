@@ -30,11 +30,11 @@ use Rattle.queue.proofs.MarkedRequests.{entries_append}
 use Rattle.channel_step.specs.FrFcfs.Arrivals.{ComesAfter, KeepsNext}
 use Rattle.channel_step.specs.FrFcfs.Choices.{choice_in}
 use Rattle.channel_step.specs.FrFcfs.Requests.{IsInBanks, finds_row_open, candidates_of}
-use Rattle.channel_step.specs.FrFcfs.Offers.{IsReadyFrom}
+use Rattle.channel_step.specs.FrFcfs.Offers.{IsReadyFrom, going, is_of}
+use Rattle.channel_step.specs.declared.fr_fcfs.accesses.Accesses.{Accesses}
 use Rattle.queue.proofs.Firsts.{marked_eligible}
 use Rattle.channel_step.proofs.FrFcfs.Legal.{withheld_is, hit_is, same_bank}
 use Rattle.channel_step.proofs.FrFcfs.BankOffers.{legal_then}
-use Rattle.channel_step.proofs.FrFcfs.Favoured.{favour_never}
 
 zip_each : (P : Request → Type 0) (rs : List Request) (ms : List ℕ) → All P rs → All (λ (e : Request × ℕ). P e.0) (zip rs ms)
 zip_each P [] ms all = All-nil (λ (e : Request × ℕ). P e.0)
@@ -230,19 +230,34 @@ unfolding choice_between
 between_none_issued s history cycle t hit requests more None early all none = none_issued_still s history cycle t hit requests more early all none
 between_none_issued s history cycle t hit requests more (Some rank) early all none = none
 
--- What is next stays so with requests that come after it, where the channel never drains its writes.
-pub next_stays : (s : Config) (history : List IssuedCommand) (earlier later : QueueView) (new : List Arrived) (cycle : ℕ) (command : Command) → s.write_high ≡ 0
-    → later.log ≡ earlier.log ++ new → All (ComesAfter s history cycle (is_column_command command)) (all_requests new)
+filtered_one : (p : Request → Bool) (P : Request → Type 0) (r : Request) (rest : List Request) (b : Bool) → p r ≡ b → (p r ≡ true → P r) → All P rest → All P (cond b (r ∷ rest) rest)
+filtered_one p P r rest true e here all = All-cons P r rest (here e) all
+filtered_one p P r rest false e here all = all
+
+-- those of some requests that pass a test
+filtered_each : (p : Request → Bool) (P : Request → Type 0) (rs : List Request) → All (λ r. p r ≡ true → P r) rs → All P (filter p rs)
+filtered_each p P [] all = All-nil P
+filtered_each p P (r ∷ rs) all =
+    let Q = λ (x : Request). p x ≡ true → P x in
+    filtered_one p P r (filter p rs) (p r) refl (All-head Q r rs all) (filtered_each p P rs (All-tail Q r rs all))
+
+-- What is next stays so with requests that arrive, where requests of the same accesses go, and those of them that
+-- arrived come after it.
+pub next_stays : (s : Config) (history : List IssuedCommand) (earlier later : QueueView) (new : List Arrived) (accesses : Accesses) (cycle : ℕ) (command : Command)
+    → candidates_of s earlier ≡ going accesses earlier.log → candidates_of s later ≡ going accesses later.log → later.log ≡ earlier.log ++ new
+    → All (λ r. is_of accesses r ≡ true → ComesAfter s history cycle (is_column_command command) r) (all_requests new)
     → KeepsNext (choice_in s history earlier) (choice_in s history later) cycle command
-next_stays s history earlier later new cycle command never whole all =
+next_stays s history earlier later new accesses cycle command went go whole all =
     let requests = candidates_of s earlier in
-    let more = later_lines earlier.log new in
-    let each = later_each (ComesAfter s history cycle (is_column_command command)) earlier.log new all in
+    let P = λ (r : Request). is_of accesses r ≡ true → ComesAfter s history cycle (is_column_command command) r in
+    let more = filter (is_of accesses) (later_lines earlier.log new) in
+    let each = filtered_each (is_of accesses) (ComesAfter s history cycle (is_column_command command)) (later_lines earlier.log new) (later_each P earlier.log new all) in
     let same : candidates_of s later ≡ requests ++ more =
-    sym (favour_never s later never)
-    ∙ ap (λ log. first_of_lines (waiting_requests log)) whole
-    ∙ lines_more earlier.log new
-    ∙ ap (λ xs. xs ++ more) (favour_never s earlier never) in
+    go
+    ∙ ap (going accesses) whole
+    ∙ ap (filter (is_of accesses)) (lines_more earlier.log new)
+    ∙ filter-append (is_of accesses) (first_of_lines (waiting_requests earlier.log)) (later_lines earlier.log new)
+    ∙ ap (λ xs. xs ++ more) (sym went) in
     record {
       then_is = λ chosen.
           ap (λ xs. choice_between s history cycle xs (lowest_due s history cycle)) same

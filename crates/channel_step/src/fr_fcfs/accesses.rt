@@ -1,10 +1,10 @@
 //! Which requests may be served next.
 
-ghost use Rattle.std.specs.Prelude.{◌≡◌, ◌<◌, ℕ, Option};
+ghost use Rattle.std.specs.Prelude.{◌≡◌, ◌<◌, ℕ, Option, IsTrue};
 ghost use Rattle.sim_base.specs.declared.config.Config.{Config};
 ghost use Rattle.queue.specs.Stands.{StandsFor as CandidatesStandFor};
 ghost use Rattle.channel_step.specs.FrFcfs.Requests.{candidates_of};
-ghost use Rattle.channel_step.specs.FrFcfs.Offers.{favoured_access, other_access, only, going};
+ghost use Rattle.channel_step.specs.FrFcfs.Offers.{favoured_access, other_access, only, going, includes};
 
 use queue::Queue;
 use queue::bank_candidates::BankCandidates;
@@ -71,5 +71,41 @@ pub(crate) fn access_that_goes(queue: &Queue, bank_candidates: &BankCandidates) 
         favoured
     } else {
         other_access(favoured)
+    }
+}
+
+/// The accesses whose requests go: both, where the channel never drains, and otherwise one.
+#[inline(always)]
+pub(crate) fn accesses_that_go(queue: &Queue, bank_candidates: &BankCandidates) -> Accesses
+    ensures { (s : Config) (open_rows : ℕ → Option ℕ)
+        → s.write_high ≡ queue.now.high
+        → CandidatesStandFor bank_candidates.now queue.now.log open_rows
+        → candidates_of s queue.now ≡ going result queue.now.log }
+{
+    if queue.high() == 0 {
+        return ALL_ACCESSES;
+    }
+    match access_that_goes(queue, bank_candidates) {
+        Access::Read => READS,
+        Access::Write => WRITES,
+    }
+}
+
+/// Whether requests of the same accesses go.
+#[inline(always)]
+pub(crate) fn are_same(a: Accesses, b: Accesses) -> bool
+    ensures { IsTrue result → a ≡ b }
+{
+    a.reads == b.reads && a.writes == b.writes
+}
+
+/// Whether a request that asks for an access goes.
+#[inline(always)]
+pub(crate) fn goes(accesses: Accesses, access: Access) -> bool
+    ensures { result ≡ includes accesses access }
+{
+    match access {
+        Access::Read => accesses.reads,
+        Access::Write => accesses.writes,
     }
 }

@@ -15,6 +15,7 @@ ghost use Rattle.channel_step.specs.FrFcfs.Arrivals.{ComesAfter, StaysFound};
 ghost use Rattle.channel_step.specs.FrFcfs.Choices.{command_of, IsFor};
 ghost use Rattle.channel_step.specs.FrFcfs.Requests.{IsInBanks, IsOfBank, AreInBanks, OfSameBanks, KnowsRows, ForRequests, finds_row_open};
 
+use crate::fr_fcfs::accesses::{Accesses, accesses_that_go, are_same, goes};
 use crate::fr_fcfs::choice::Need;
 use crate::fr_fcfs::offers::ready;
 use bank_ready::banks::Banks;
@@ -100,31 +101,40 @@ fn needs_column_command(bank_candidates: &BankCandidates, log: &[Arrived], need:
     }
 }
 
-/// Whether what was found, the next cycle with a command and what needs it, is known to stay the same now that the
-/// requests of the log from a place on have arrived. It stays if none of them goes before it. If the channel ever
-/// drains its writes, none is looked at, and it is not known.
+/// A queue before requests arrived: how many places its log had, and the requests of which accesses went.
+#[derive(Clone, Copy)]
+pub(crate) struct EarlierQueue {
+    pub(crate) places: usize,
+    pub(crate) accesses: Accesses,
+}
+
+/// Whether what was found, the next cycle with a command and what needs it, is known to stay the same now that requests
+/// have arrived at a queue. It stays if requests of the same accesses go, and none of those that arrived goes before it.
 #[inline(always)]
-pub fn stays(
+pub(crate) fn stays(
     queue: &Queue,
     bank_candidates: &BankCandidates,
     banks: &Banks,
-    from: usize,
+    before: EarlierQueue,
     found: (Cycle, Need),
 ) -> bool
     requires places { AreInBanks (rank_count banks.now) queue.now.log }
     requires banks { OfSameBanks bank_candidates.now banks.now }
     requires need { IsFor (rank_count banks.now) queue.now.log found.1 }
     ensures { result ≡ true → ForRequests banks.now bank_candidates.now queue.now (λ s history.
-        StaysFound s history (take from queue.now.log) queue.now found) }
+        StaysFound s history (take before.places queue.now.log) before.accesses queue.now found) }
 {
-    if queue.high() != 0 {
+    let accesses = accesses_that_go(queue, bank_candidates);
+    if !are_same(accesses, before.accesses) {
         return false;
     }
     let (cycle, need) = found;
     let log = queue.log().log();
     let hit = needs_column_command(bank_candidates, log, need);
-    for place in from..log.len() {
-        if !comes_after(bank_candidates, banks, &log[place].request, cycle, hit) {
+    for place in before.places..log.len() {
+        let request = &log[place].request;
+        let goes = goes(accesses, request.access);
+        if goes && !comes_after(bank_candidates, banks, request, cycle, hit) {
             return false;
         }
     }

@@ -44,9 +44,9 @@ on_arrival-requires-clause-waits c =
     let inbox = c.args.inbox.now in
     let y = c.make_room.new.self in
     let q = c.admit.new.queue in
-    let older = c.len-older.ensures.value ∙ ap (λ (v : LogView). length v.log) c.log.ensures in
-    subst (λ l. All (λ (a : Arrived). a.waits ≡ true) (drop c.len-older.result l)) (sym (ap (λ (v : LogView). v.log) c.log-2.ensures))
-    (log-after y (carried_requests (take c.due_count-due.result inbox)) c.len-older.result q older c.admit.ensures)
+    let older = c.len.ensures.value ∙ ap (λ (v : LogView). length v.log) c.log.ensures in
+    subst (λ l. All (λ (a : Arrived). a.waits ≡ true) (drop c.len.result l)) (sym (ap (λ (v : LogView). v.log) c.log-2.ensures))
+    (log-after y (carried_requests (take c.due_count-due.result inbox)) c.len.result q older c.admit.ensures)
 
 pub reconsider-requires-clause-places : goal.reconsider-requires-clause-places
 reconsider-requires-clause-places c =
@@ -67,9 +67,9 @@ reconsider-requires-clause-next_command c =
     let q = c.admit.new.queue in
     let p = c.requires.can_run in
     let h = c.make_room.ensures.stands p.s p.channel p.steps p.mail p.stands in
-    let older = c.len-older.ensures.value ∙ ap (λ (v : LogView). length v.log) c.log.ensures in
-    next_command-for p.s (issued_commands p.channel p.steps) c.len-older.result (rank_count y.banks) y.queue q y.cycle y.next_command h.banks_stand.ranks
-    (log-before y (carried_requests (take c.due_count-due.result inbox)) c.len-older.result q older c.admit.ensures) (next_command-from _ _ _ _ _ h.foresees)
+    let older = c.len.ensures.value ∙ ap (λ (v : LogView). length v.log) c.log.ensures in
+    next_command-for p.s (issued_commands p.channel p.steps) c.len.result (rank_count y.banks) y.queue q y.cycle y.next_command h.banks_stand.ranks
+    (log-before y (carried_requests (take c.due_count-due.result inbox)) c.len.result q older c.admit.ensures) (next_command-from _ _ _ _ _ h.foresees)
 
 pub returns-clause-in_cycle : goal.returns-clause-in_cycle
 returns-clause-in_cycle c s channel steps mail stands until at l f =
@@ -81,15 +81,16 @@ returns-clause-in_cycle c s channel steps mail stands until at l f =
     let rows : ℕ → Option ℕ = λ n. open_row (bank_at n) history in
     let h = c.make_room.ensures.stands s channel steps mail stands in
     let joined = c.admit.ensures ∙ ap (λ k. with_arrivals y.queue (carried_requests (take k inbox))) due in
-    let older = c.len-older.ensures.value ∙ ap (λ (v : LogView). length v.log) c.log.ensures in
+    let older = c.len.ensures.value ∙ ap (λ (v : LogView). length v.log) c.log.ensures in
     let shown : c.log-2.result.now.log ≡ q.log = ap (λ (v : LogView). v.log) c.log-2.ensures in
-    let before = log-before y (carried_requests (take c.due_count-due.result inbox)) c.len-older.result q older c.admit.ensures in
+    let before = log-before y (carried_requests (take c.due_count-due.result inbox)) c.len.result q older c.admit.ensures in
     let old =
-    subst (λ l. CandidatesStandFor y.bank_candidates (take c.len-older.result l) rows) (sym shown)
+    subst (λ l. CandidatesStandFor y.bank_candidates (take c.len.result l) rows) (sym shown)
     (subst (λ l. CandidatesStandFor y.bank_candidates l rows) before h.candidates_stand) in
     let new = subst (λ l. CandidatesStandFor c.on_arrival.new.self l rows) shown (c.on_arrival.ensures.stands rows old) in
     let high = sym (ap (λ (v : QueueView). v.high) c.admit.ensures ∙ h.made_for.high_is) in
-    let known = c.reconsider.ensures.next_command s history y.queue (record { banks_stand = h.banks_stand; candidates_stand = new; high_is = high; earlier_is = before }) (next_command-from _ _ _ _ _ h.foresees) in
+    let went = c.accesses_that_go.ensures s rows (sym h.made_for.high_is) h.candidates_stand in
+    let known = c.reconsider.ensures.next_command s history y.queue (record { banks_stand = h.banks_stand; candidates_stand = new; high_is = high; earlier_is = before; went = went }) (next_command-from _ _ _ _ _ h.foresees) in
     subst (λ k. IsInCycle c.reconsider.new.self (past_of s channel steps (mail ++ take k inbox))) (sym due)
     (subst (λ (z : Channel). IsInCycle z (past_of s channel steps (mail ++ take (due_count inbox c.args.now) inbox))) (sym c.reconsider.ensures.rest)
     (arrived-stands y (past_of s channel steps mail) inbox c.args.now until q c.on_arrival.new.self c.reconsider.new.self.next_command h at l f joined c.on_arrival.ensures.banks new known))
