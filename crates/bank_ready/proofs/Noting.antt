@@ -113,6 +113,9 @@ joint-groups ranks xs groups after v until group count e =
 pub floor-raised : (before after least until : ℕ) → after ≡ max before least → least ≤ until → after ≤ max before until
 floor-raised before after least until is le = omega arith
 
+pub floor-left : (floor until : ℕ) → floor ≤ max floor until
+floor-left floor until = omega arith
+
 pub left : (n : ℕ) (word until : ℕ → ℕ) → ((k : ℕ) → until k ≡ 0) → IsRaised n word word until
 left n word until none = record { each = λ k l. omega (arith, none k) }
 

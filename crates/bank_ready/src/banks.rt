@@ -55,13 +55,14 @@ impl Banks {
     ghost use Rattle.bank_ready.specs.Noted.{HasNoted};
     ghost use Rattle.bank_ready.specs.Stands.{rank_count, IsAllowedFrom, followed_by, StandsFor};
 
-    /// Banks that were never used.
-    pub fn new(alloc: Global, config: &Config) -> Result<Self, AllocError>
+    /// Banks that were never used, with the distances of their configuration.
+    pub fn new(alloc: Global, config: &Config, gaps: &GapTable) -> Result<Self, AllocError>
+        requires { gaps.now ≡ config.now.timing }
         ensures stands { IfOk result (λ banks. StandsFor banks config.now []) }
         ensures ranks { IfOk result (λ banks. rank_count banks ≡ config.now.ranks) }
     {
         let count = config.ranks as usize;
-        let gaps = Box::new(alloc, GapTable::of(config))?;
+        let gaps = Box::new(alloc, *gaps)?;
         let ranks = unused_ranks(alloc, count)?;
         let pre = new_words(alloc, 16 * count)?;
         let (act, rd, wr) = act_rd_and_wr_words(alloc, count)?;
@@ -148,14 +149,18 @@ impl Banks {
         }
     }
 
-    /// Notes an ACT, in its bank, in the words of ACTs of the groups of its rank and in those of the whole rank.
-    #[inline]
+    /// Notes an ACT that is issued in a cycle later than those of all commands noted before: in its bank, in the words of
+    /// ACTs of the groups of its rank and in those of the whole rank.
+    #[inline(always)]
     #[tactic(auto, unfolding(sim_base::specs::Rules::is_bound))]
-    fn note_act(&mut self, bank: BankId, cycle: Cycle)
+    pub fn note_act(&mut self, bank: BankId, cycle: Cycle)
         requires rank { bank.rank < rank_count self.old }
         requires cycle { cycle < 2 ^ 62 }
-        ensures { (row : ℕ) (source : Source)
-            → HasNoted self.old self.new cycle (Command.Act bank row source) }
+        ensures stands { (s : Config) (history : List IssuedCommand) (channel row : ℕ) (source : Source)
+            → StandsFor self.old s history → All (λ i. i.cycle < cycle) history
+            → StandsFor self.new s
+            (followed_by history channel cycle (Command.Act bank row source)) }
+        ensures ranks { rank_count self.new ≡ rank_count self.old }
     {
         let gaps = &*self.gaps;
         let own = own_number(bank);
@@ -196,35 +201,46 @@ impl Banks {
         raise_rank_words(gaps, &mut self.ranks, bank.rank, cycle, kind);
     }
 
-    /// Notes a RD.
-    #[inline]
-    fn note_rd(&mut self, bank: BankId, cycle: Cycle)
+    /// Notes a RD that is issued in a cycle later than those of all commands noted before.
+    #[inline(always)]
+    pub fn note_rd(&mut self, bank: BankId, cycle: Cycle)
         requires rank { bank.rank < rank_count self.old }
         requires cycle { cycle < 2 ^ 62 }
-        ensures { (row column : ℕ) (source : Source)
-            → HasNoted self.old self.new cycle (Command.Rd bank row column source) }
+        ensures stands { (s : Config) (history : List IssuedCommand) (channel row column : ℕ) (source : Source)
+            → StandsFor self.old s history → All (λ i. i.cycle < cycle) history
+            → StandsFor self.new s
+            (followed_by history channel cycle (Command.Rd bank row column source)) }
+        ensures ranks { rank_count self.new ≡ rank_count self.old }
     {
         self.note_column_command(Kind::Rd, bank, cycle);
     }
 
-    /// Notes a WR.
-    #[inline]
-    fn note_wr(&mut self, bank: BankId, cycle: Cycle)
+    /// Notes a WR that is issued in a cycle later than those of all commands noted before.
+    #[inline(always)]
+    pub fn note_wr(&mut self, bank: BankId, cycle: Cycle)
         requires rank { bank.rank < rank_count self.old }
         requires cycle { cycle < 2 ^ 62 }
-        ensures { (row column : ℕ) (source : Source)
-            → HasNoted self.old self.new cycle (Command.Wr bank row column source) }
+        ensures stands { (s : Config) (history : List IssuedCommand) (channel row column : ℕ) (source : Source)
+            → StandsFor self.old s history → All (λ i. i.cycle < cycle) history
+            → StandsFor self.new s
+            (followed_by history channel cycle (Command.Wr bank row column source)) }
+        ensures ranks { rank_count self.new ≡ rank_count self.old }
     {
         self.note_column_command(Kind::Wr, bank, cycle);
     }
 
-    /// Notes a PRE, in its bank and in the words of its rank.
-    #[inline]
+    /// Notes a PRE that is issued in a cycle later than those of all commands noted before: in its bank and in the words
+    /// of its rank.
+    #[inline(always)]
     #[tactic(auto, unfolding(sim_base::specs::Rules::is_bound))]
-    fn note_pre(&mut self, bank: BankId, cycle: Cycle)
+    pub fn note_pre(&mut self, bank: BankId, cycle: Cycle)
         requires rank { bank.rank < rank_count self.old }
         requires cycle { cycle < 2 ^ 62 }
-        ensures { (source : Source) → HasNoted self.old self.new cycle (Command.Pre bank source) }
+        ensures stands { (s : Config) (history : List IssuedCommand) (channel : ℕ) (source : Source)
+            → StandsFor self.old s history → All (λ i. i.cycle < cycle) history
+            → StandsFor self.new s
+            (followed_by history channel cycle (Command.Pre bank source)) }
+        ensures ranks { rank_count self.new ≡ rank_count self.old }
     {
         let gaps = &*self.gaps;
         let own = own_number(bank);
@@ -264,9 +280,7 @@ impl Banks {
         raise_rank_words(gaps, &mut self.ranks, rank, cycle, Kind::Ref);
     }
 
-    /// Notes a command that is issued in a cycle later than those of all commands noted before. It is small, so that a
-    /// caller that knows the kind of its command calls the function of that kind.
-    #[inline(always)]
+    /// Notes a command that is issued in a cycle later than those of all commands noted before.
     pub fn note(&mut self, command: Command, cycle: Cycle)
         requires rank { rank_of command < rank_count self.old }
         requires cycle { cycle < 2 ^ 62 }

@@ -44,7 +44,7 @@ use Rattle.channel_step.specs.Owed.{RefIsOwed}
 use Rattle.channel_step.specs.Runs.{with_more, HasIssued}
 use Rattle.std.proofs.lemmas.List.{append-nil}
 use Rattle.channel_step.specs.Channels.{CandidatesStand, KeepsServed, StandsFor, IsInCycle, CountsDrains, seen_of, seen_with}
-use Rattle.channel_step.specs.Readied.{as_issued, IsReadied, seen_after}
+use Rattle.channel_step.specs.Readied.{as_issued, commands_with, IsReadied, seen_after}
 use Rattle.channel_step.specs.declared.counting.Seen.{Seen}
 use Rattle.channel_step.specs.declared.next_command.NextCommand.TheVariants.{Unknown}
 use Rattle.channel_step.specs.declared.channel.Channel.{Channel}
@@ -58,15 +58,16 @@ use Rattle.channel_step.proofs.Chosen.{chosen-rank, chosen-ref_is_due, RefIsDue,
 use Rattle.channel_step.proofs.Places.{queue-ranks}
 
 -- what a channel is readied by: a log of which one more or none is served, with its marks, and the candidates for it
-pub readied : (c : Channel) (past : Past) (command : Command) (hit : Bool) (log : List Arrived) (bank_candidates : BankCandidates) (served : Option (Vec ServedRequest Global))
+pub readied : (c : Channel) (past : Past) (command : Command) (hit : Bool) (log : List Arrived) (bank_candidates : BankCandidates) (banks : Banks) (served : Option (Vec ServedRequest Global))
     → IsInCycle c past → Some command ≡ choice_after past → issues_hit (commands_after past) (Some command) ≡ hit
     → all_requests log ≡ all_requests c.queue.log → waiting_requests log ≡ unserved_by command (waiting_requests c.queue.log)
     → activated_in log ≡ activated_of (commands_after past ++ as_issued past.channel (length past.steps) command ∷ []) (waiting_requests log)
     → bank_count bank_candidates ≡ bank_count c.bank_candidates
     → CandidatesStandFor bank_candidates log (λ bank. row_after (bank_at bank) (open_row (bank_at bank) (commands_after past)) command)
+    → BanksStandFor banks past.config (commands_with past command)
     → KeepsServed served (commands_after past ++ as_issued past.channel (length past.steps) command ∷ []) past.mail
-    → IsReadied (record c { queue = record c.queue { log = log }; bank_candidates = bank_candidates; served = served }) past command hit
-readied c past command hit log bank_candidates served h chosen hit_is all left marks count stands keeps =
+    → IsReadied (record c { queue = record c.queue { log = log }; banks = banks; bank_candidates = bank_candidates; served = served }) past command hit
+readied c past command hit log bank_candidates banks served h chosen hit_is all left marks count stands noted keeps =
     let j = h.joined in
     let history = commands_after past in
     let row = as_issued past.channel (length past.steps) command in
@@ -100,7 +101,7 @@ readied c past command hit log bank_candidates served h chosen hit_is all left m
           same_rows bank_candidates log (λ bank. row_after (bank_at bank) (open_row (bank_at bank) history) command)
           (λ bank. open_row (bank_at bank) (history ++ row ∷ [])) stands
           (λ bank there. sym (open_row-push (bank_at bank) history row));
-      banks_stand = h.banks_stand;
+      banks_stand = noted;
       refreshes_stand = h.refreshes_stand;
       keeps_served = keeps;
     }
@@ -157,13 +158,12 @@ pub readied-drains : (c : Channel) (past : Past) (command : Command) (hit : Bool
 readied-drains c past command hit h = drains-counted c past.config past.channel past.steps past.mail h.made_for.config_is h.stats_are
 
 -- what it stands for when the command is noted and counted
-pub issued-stands : (c : Channel) (past : Past) (command : Command) (hit : Bool) (seen : Seen) (banks : Banks) (refresh : RefreshCounts)
+pub issued-stands : (c : Channel) (past : Past) (command : Command) (hit : Bool) (seen : Seen) (refresh : RefreshCounts)
     → IsReadied c past command hit → seen ≡ seen_after past
-    → BanksStandFor banks past.config (commands_after past ++ as_issued past.channel c.cycle command ∷ [])
     → RefreshesStandFor refresh past.config (commands_after past ++ as_issued past.channel c.cycle command ∷ [])
-    → StandsFor (record c { cycle = c.cycle + 1; banks = banks; refresh = refresh; next_command = Unknown; stats = channel_joined c.stats (cycle_with_hit c.config seen.queued seen.refreshing seen.draining (Some command) hit) })
+    → StandsFor (record c { cycle = c.cycle + 1; refresh = refresh; next_command = Unknown; stats = channel_joined c.stats (cycle_with_hit c.config seen.queued seen.refreshing seen.draining (Some command) hit) })
     past.config past.channel (past.steps ++ Some command ∷ []) past.mail
-issued-stands c past command hit seen banks refresh h e b r =
+issued-stands c past command hit seen refresh h e r =
     let o = Some command in
     let now = length past.steps in
     let history = commands_after past in
@@ -200,7 +200,7 @@ issued-stands c past command hit seen banks refresh h e b r =
         stats_are = counted-is c past command hit seen h e;
       };
       candidates_stand = subst (CandidatesStand c.bank_candidates c.queue.log) (sym issued) h.candidates_stand;
-      banks_stand = subst (BanksStandFor banks past.config) (sym issued) (subst (λ k. BanksStandFor banks past.config (history ++ as_issued past.channel k command ∷ [])) h.cycle_is b);
+      banks_stand = subst (BanksStandFor c.banks past.config) (sym issued) h.banks_stand;
       refreshes_stand = subst (RefreshesStandFor refresh past.config) (sym issued) (subst (λ k. RefreshesStandFor refresh past.config (history ++ as_issued past.channel k command ∷ [])) h.cycle_is r);
       foresees = foreseen-unknown past.config (issued_commands past.channel (past.steps ++ o ∷ [])) c.queue (c.cycle + 1);
       keeps_served = subst (λ x. KeepsServed c.served x past.mail) (sym issued) h.keeps_served;
@@ -257,17 +257,6 @@ chosen-is : (s : Config) (channel : ℕ) (steps : List (Option Command)) (mail :
     ≡ choice_between s (issued_commands channel steps) (length steps) (candidates s (drains s channel steps mail (length steps)) (queued_requests (issued_commands channel steps) mail (length steps + 1)))
     (lowest_due s (issued_commands channel steps) (length steps))
 chosen-is s channel steps mail command e = e ∙ choice-next s channel steps mail _ _ refl refl
-
--- a command that a channel issues is for a rank that exists
-pub command-rank : (c : Channel) (past : Past) (command : Command) (hit : Bool) → IsReadied c past command hit
-    → rank_of command < rank_count c.banks
-command-rank c past command hit h =
-    let history = commands_after past in
-    let queue = queued_requests history past.mail (length past.steps + 1) in
-    let below : rank_of command < past.config.ranks =
-    IfSome-at (λ x. rank_of x < past.config.ranks) _ command (chosen-is past.config past.channel past.steps past.mail command h.chosen)
-    (chosen-rank past.config history (length past.steps) _ queue (queue-ranks past.config past.channel history past.mail (length past.steps + 1) queue h.requests refl)) in
-    omega (arith, h.banks_stand.ranks)
 
 -- a REF that a channel issues is due
 pub command-owed : (c : Channel) (past : Past) (command : Command) (hit : Bool) → IsReadied c past command hit

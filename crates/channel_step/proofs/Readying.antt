@@ -3,7 +3,7 @@
 use Rattle.std.proofs.Common.{◌≡◌, ℕ, ◌+◌, ◌<◌, true, false, cond, eqb, get_or, List, [], ◌∷◌, ◌++◌, length, Option, Some, None, refl, sym, ap, ap₂, subst, ◌∙◌, arith}
 use Rattle.std.specs.Prelude.{not, Vec}
 use Rattle.std.specs.declared.alloc.Global.{Global}
-use Rattle.std.specs.List.{AllByRecursion as Each}
+use Rattle.std.specs.List.{All, AllByRecursion as Each}
 use Rattle.std.proofs.lemmas.Bool.{cond-true, cond-false, eq-eqb, ne_eqb}
 use Rattle.sim_base.specs.declared.config.Config.{Config}
 use Rattle.sim_base.specs.Counts.{is_hit}
@@ -16,6 +16,8 @@ use Rattle.sim_base.specs.declared.command.Command.TheVariants.{Pre, Prea, Ref}
 use Rattle.sim_base.specs.declared.command.IssuedCommand.{IssuedCommand}
 use Rattle.sim_base.specs.declared.message.Request.{Request}
 use Rattle.sim_base.specs.declared.place.BankId.{BankId}
+use Rattle.bank_ready.specs.Stands.{rank_count, followed_by, StandsFor as BanksStandFor}
+use Rattle.bank_ready.specs.declared.banks.Banks.{Banks}
 use Rattle.queue.specs.Log.{absent, waiting_requests, served_at, activated_at, waits_at}
 use Rattle.queue.proofs.Activated.{all_activated, waiting_activated}
 use Rattle.queue.proofs.Places.{all_served}
@@ -32,12 +34,12 @@ use Rattle.channel_step.specs.Stands.{activated_of}
 use Rattle.channel_step.specs.Queued.{request_at, served_now, kept_rows}
 use Rattle.channel_step.specs.Runs.{with_more}
 use Rattle.channel_step.specs.Channels.{CandidatesStand, IsInCycle}
-use Rattle.channel_step.specs.Readied.{IsChosen, IsDoing, as_issued, IsReadied}
+use Rattle.channel_step.specs.Readied.{IsChosen, IsDoing, as_issued, commands_with, IsReadied}
 use Rattle.channel_step.specs.declared.fr_fcfs.choice.Need.TheVariants as Needs
 use Rattle.channel_step.specs.declared.channel.Channel.{Channel}
 use Rattle.channel_step.proofs.Cycle.{joined-differ}
 use Rattle.channel_step.proofs.Foreseen.{request-needs}
-use Rattle.channel_step.proofs.Issuing.{readied, late-none}
+use Rattle.channel_step.proofs.Issuing.{readied, late-none, issued-before}
 use Rattle.channel_step.proofs.Leaving.{at-waiting, served-waits, served-marks, mark-at, activated-marks}
 use Rattle.channel_step.proofs.Marks.{column_either, opens_none, marks-act, marks-no_act, served-none, hit-mark, column-opens_none}
 use Rattle.channel_step.proofs.Serving.{kept-none_issued, kept-served}
@@ -49,6 +51,20 @@ placed-among c past place h l =
     let placed = placed_at (IsInBanks past.config.ranks) c.queue.log place h.made_for.in_banks l in
     record { number = omega (arith, placed.rank, placed.group, placed.bank, h.made_for.banks_are); group = placed.group; bank = placed.bank }
 
+-- and its rank is one of those of the channel's banks
+pub placed-rank : (c : Channel) (past : Past) (place : ℕ) → IsInCycle c past → place < length c.queue.log
+    → (request_at c.queue.log place).place.rank < rank_count c.banks
+placed-rank c past place h l = omega (arith, (placed_at (IsInBanks past.config.ranks) c.queue.log place h.made_for.in_banks l).rank, h.banks_stand.ranks)
+
+-- the commands of a past are earlier than the cycle where the channel stands
+pub noted-later : (c : Channel) (past : Past) → IsInCycle c past → All (λ (i : IssuedCommand). i.cycle < c.cycle) (commands_after past)
+noted-later c past h = issued-before past.channel c.cycle past.steps (sym h.cycle_is)
+
+-- banks that stand for a command of the cycle where the channel stands stand for it after its past
+pub noted-at : (c : Channel) (past : Past) (command : Command) (banks : Banks) → IsInCycle c past
+    → BanksStandFor banks past.config (followed_by (commands_after past) past.channel c.cycle command) → BanksStandFor banks past.config (commands_with past command)
+noted-at c past command banks h = subst (λ t. BanksStandFor banks past.config (followed_by (commands_after past) past.channel t command)) h.cycle_is
+
 -- the candidates of a channel know which rows are open
 pub knows-rows : (c : Channel) (past : Past) → IsInCycle c past → KnowsRows c.bank_candidates (commands_after past)
 knows-rows c past h = record { log = c.queue.log; stands = h.candidates_stand }
@@ -57,42 +73,46 @@ pub groups-are : (c : Channel) (past : Past) → IsInCycle c past → past.confi
 groups-are c past h = ap (λ (x : Config). x.groups) (sym h.made_for.config_is)
 
 -- a command that serves none and opens no row leaves the log
-none_issued-readied : (c : Channel) (past : Past) (command : Command) (bank_candidates : BankCandidates) → IsInCycle c past
+none_issued-readied : (c : Channel) (past : Past) (command : Command) (bank_candidates : BankCandidates) (banks : Banks) → IsInCycle c past
     → Some command ≡ choice_after past → opens_none command ≡ true → is_column_command command ≡ false → is_hit (commands_after past) command ≡ false
     → bank_count bank_candidates ≡ bank_count c.bank_candidates
     → CandidatesStandFor bank_candidates c.queue.log (λ bank. row_after (bank_at bank) (open_row (bank_at bank) (commands_after past)) command)
-    → IsReadied (record c { bank_candidates = bank_candidates }) past command false
-none_issued-readied c past command bank_candidates h chosen opens none_issued no_hit count stands =
+    → BanksStandFor banks past.config (commands_with past command)
+    → IsReadied (record c { banks = banks; bank_candidates = bank_candidates }) past command false
+none_issued-readied c past command bank_candidates banks h chosen opens none_issued no_hit count stands noted =
     let history = commands_after past in
     let row = as_issued past.channel (length past.steps) command in
-    readied c past command false c.queue.log bank_candidates c.served h chosen no_hit refl (sym (served-none (waiting_requests c.queue.log) command none_issued))
-    (h.joined.activated_are ∙ sym (marks-no_act history row (waiting_requests c.queue.log) opens)) count stands
+    readied c past command false c.queue.log bank_candidates banks c.served h chosen no_hit refl (sym (served-none (waiting_requests c.queue.log) command none_issued))
+    (h.joined.activated_are ∙ sym (marks-no_act history row (waiting_requests c.queue.log) opens)) count stands noted
     (kept-none_issued c.served history row past.mail (late-none past.config past.channel past.steps past.mail command chosen) none_issued h.keeps_served)
 
 -- a PRE closes the bank of a request
-pub closed-readied : (c : Channel) (past : Past) (place : ℕ) (bank_candidates : BankCandidates) → IsInCycle c past
+pub closed-readied : (c : Channel) (past : Past) (place : ℕ) (bank_candidates : BankCandidates) (banks : Banks) → IsInCycle c past
     → place < length c.queue.log
     → let r = request_at c.queue.log place in
     Some (Pre (bank_in r.place) (source_of r)) ≡ choice_after past → bank_count bank_candidates ≡ bank_count c.bank_candidates
     → CandidatesStandFor bank_candidates c.queue.log (with_row (number_of_bank (bank_in r.place)) None (λ bank. open_row (bank_at bank) (commands_after past)))
-    → IsReadied (record c { bank_candidates = bank_candidates }) past (Pre (bank_in r.place) (source_of r)) false
-closed-readied c past place bank_candidates h l chosen count stands =
+    → BanksStandFor banks past.config (commands_with past (Pre (bank_in r.place) (source_of r)))
+    → IsReadied (record c { banks = banks; bank_candidates = bank_candidates }) past (Pre (bank_in r.place) (source_of r)) false
+closed-readied c past place bank_candidates banks h l chosen count stands noted =
     let r = request_at c.queue.log place in
     let bank = bank_in r.place in
     let rows : ℕ → Option ℕ = λ n. open_row (bank_at n) (commands_after past) in
     let among = placed-among c past place h l in
-    none_issued-readied c past (Pre bank (source_of r)) bank_candidates h chosen refl refl refl count
+    none_issued-readied c past (Pre bank (source_of r)) bank_candidates banks h chosen refl refl refl count
     (same_rows bank_candidates c.queue.log (with_row (number_of_bank bank) None rows) (λ n. row_after (bank_at n) (rows n) (Pre bank (source_of r))) stands
     (λ n there. ap (λ t. cond t None (rows n)) (number_names_bank n bank among.group among.bank)))
+    noted
 
 -- an ACT opens a row in it, and marks the request
-pub opened-readied : (c : Channel) (past : Past) (place : ℕ) (bank_candidates : BankCandidates) → IsInCycle c past
+pub opened-readied : (c : Channel) (past : Past) (place : ℕ) (bank_candidates : BankCandidates) (banks : Banks) → IsInCycle c past
     → place < length c.queue.log → waits_at c.queue.log place ≡ true
     → let r = request_at c.queue.log place in
     Some (needed_at None r) ≡ choice_after past → bank_count bank_candidates ≡ bank_count c.bank_candidates
     → CandidatesStandFor bank_candidates (activated_at c.queue.log place) (with_row (number_of_bank (bank_in r.place)) (Some r.place.row) (λ bank. open_row (bank_at bank) (commands_after past)))
-    → IsReadied (record c { queue = record c.queue { log = activated_at c.queue.log place }; bank_candidates = bank_candidates }) past (needed_at None r) false
-opened-readied c past place bank_candidates h l w chosen count stands =
+    → BanksStandFor banks past.config (commands_with past (needed_at None r))
+    → IsReadied (record c { queue = record c.queue { log = activated_at c.queue.log place }; banks = banks; bank_candidates = bank_candidates }) past (needed_at None r) false
+opened-readied c past place bank_candidates banks h l w chosen count stands noted =
     let log = c.queue.log in
     let r = request_at log place in
     let bank = bank_in r.place in
@@ -102,7 +122,7 @@ opened-readied c past place bank_candidates h l w chosen count stands =
     let rows : ℕ → Option ℕ = λ n. open_row (bank_at n) history in
     let among = placed-among c past place h l in
     let differ = joined-differ _ _ _ _ past h.joined in
-    readied c past act false (activated_at log place) bank_candidates c.served h chosen refl (all_activated log place)
+    readied c past act false (activated_at log place) bank_candidates banks c.served h chosen refl (all_activated log place)
     (waiting_activated log place ∙ sym (served-none (waiting_requests log) act refl))
     (activated-marks (has_act history) log place l w differ h.joined.activated_are
     ∙ sym (marks-act history row (waiting_requests log) bank r.place.row (source_of r) refl)
@@ -110,21 +130,23 @@ opened-readied c past place bank_candidates h l w chosen count stands =
     count
     (same_rows bank_candidates (activated_at log place) (with_row (number_of_bank bank) (Some r.place.row) rows) (λ n. row_after (bank_at n) (rows n) act) stands
     (λ n there. ap (λ t. cond t (Some r.place.row) (rows n)) (number_names_bank n bank among.group among.bank)))
+    noted
     (kept-none_issued c.served history row past.mail (late-none past.config past.channel past.steps past.mail act chosen) refl h.keeps_served)
 
 column-rows : (bank : BankId) (row : Option ℕ) (r : Request) → row ≡ row_after bank row (column_command r)
 column-rows bank row r = column_either (λ command. row ≡ row_after bank row command) r refl refl
 
 -- a column command serves the request
-pub served-readied : (c : Channel) (past : Past) (place : ℕ) (bank_candidates : BankCandidates) (served : Option (Vec ServedRequest Global))
+pub served-readied : (c : Channel) (past : Past) (place : ℕ) (bank_candidates : BankCandidates) (banks : Banks) (served : Option (Vec ServedRequest Global))
     → IsInCycle c past → place < length c.queue.log → waits_at c.queue.log place ≡ true
     → let r = request_at c.queue.log place in
     let hit = not (get_or c.queue.log place absent).activated in
     Some (column_command r) ≡ choice_after past → bank_count bank_candidates ≡ bank_count c.bank_candidates
     → CandidatesStand bank_candidates (served_at c.queue.log place) (commands_after past)
+    → BanksStandFor banks past.config (commands_with past (column_command r))
     → kept_rows served ≡ with_more (kept_rows c.served) (served_now c.number c.cycle r hit ∷ [])
-    → IsReadied (record c { queue = record c.queue { log = served_at c.queue.log place }; bank_candidates = bank_candidates; served = served }) past (column_command r) hit
-served-readied c past place bank_candidates served h l w chosen count stands more =
+    → IsReadied (record c { queue = record c.queue { log = served_at c.queue.log place }; banks = banks; bank_candidates = bank_candidates; served = served }) past (column_command r) hit
+served-readied c past place bank_candidates banks served h l w chosen count stands noted more =
     let j = h.joined in
     let log = c.queue.log in
     let r = request_at log place in
@@ -136,28 +158,31 @@ served-readied c past place bank_candidates served h l w chosen count stands mor
     let differ = joined-differ _ _ _ _ past j in
     let no_act = column-opens_none r in
     let is_hit : issues_hit history (Some command) ≡ hit = hit-mark history r ∙ ap not (sym (mark-at (has_act history) log place l w j.activated_are)) in
-    readied c past command hit (served_at log place) bank_candidates served h chosen is_hit (all_served log place) (served-waits log place l w differ)
+    readied c past command hit (served_at log place) bank_candidates banks served h chosen is_hit (all_served log place) (served-waits log place l w differ)
     (served-marks (has_act history) log place j.activated_are ∙ sym (marks-no_act history row (waiting_requests (served_at log place)) no_act))
     count
     (same_rows bank_candidates (served_at log place) rows (λ n. row_after (bank_at n) (rows n) command) stands (λ n there. column-rows (bank_at n) (rows n) r))
+    noted
     (kept-served c.served served history row r hit past.mail (length past.steps + 1) refl (late-none past.config past.channel past.steps past.mail command chosen)
     (λ P each. at-waiting P log place l w (subst (Each P) (sym j.queue_is) each)) is_hit
     (more ∙ ap₂ (λ number t. with_more (kept_rows c.served) (served_now number t r hit ∷ [])) h.made_for.number_is h.cycle_is)
     h.keeps_served)
 
 -- what a rank needs that is to be refreshed closes its banks, or leaves them closed
-pub rank-readied : (c : Channel) (past : Past) (rank : ℕ) (bank_candidates : BankCandidates) → IsInCycle c past
+pub rank-readied : (c : Channel) (past : Past) (rank : ℕ) (bank_candidates : BankCandidates) (banks : Banks) → IsInCycle c past
     → Some (Prea rank) ≡ choice_after past → bank_count bank_candidates ≡ bank_count c.bank_candidates
     → CandidatesStandFor bank_candidates c.queue.log (closed_in rank (λ bank. open_row (bank_at bank) (commands_after past)))
-    → IsReadied (record c { bank_candidates = bank_candidates }) past (Prea rank) false
-rank-readied c past rank bank_candidates h chosen count stands =
+    → BanksStandFor banks past.config (commands_with past (Prea rank))
+    → IsReadied (record c { banks = banks; bank_candidates = bank_candidates }) past (Prea rank) false
+rank-readied c past rank bank_candidates banks h chosen count stands noted =
     let rows : ℕ → Option ℕ = λ n. open_row (bank_at n) (commands_after past) in
-    none_issued-readied c past (Prea rank) bank_candidates h chosen refl refl refl count
-    (same_rows bank_candidates c.queue.log (closed_in rank rows) (λ n. row_after (bank_at n) (rows n) (Prea rank)) stands (λ n there. refl))
+    none_issued-readied c past (Prea rank) bank_candidates banks h chosen refl refl refl count
+    (same_rows bank_candidates c.queue.log (closed_in rank rows) (λ n. row_after (bank_at n) (rows n) (Prea rank)) stands (λ n there. refl)) noted
 
-pub refresh-readied : (c : Channel) (past : Past) (rank : ℕ) → IsInCycle c past
-    → Some (Ref rank) ≡ choice_after past → IsReadied c past (Ref rank) false
-refresh-readied c past rank h chosen = none_issued-readied c past (Ref rank) c.bank_candidates h chosen refl refl refl refl h.candidates_stand
+pub refresh-readied : (c : Channel) (past : Past) (rank : ℕ) (banks : Banks) → IsInCycle c past
+    → Some (Ref rank) ≡ choice_after past → BanksStandFor banks past.config (commands_with past (Ref rank))
+    → IsReadied (record c { banks = banks }) past (Ref rank) false
+refresh-readied c past rank banks h chosen noted = none_issued-readied c past (Ref rank) c.bank_candidates banks h chosen refl refl refl refl h.candidates_stand noted
 
 -- what the request at a place needs, where this row of its bank is open, or none is
 pub needed-with : (history : List IssuedCommand) (r : Request) (o : Option ℕ) → o ≡ open_row (bank_in r.place) history → needed history r ≡ needed_at o r

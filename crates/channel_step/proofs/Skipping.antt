@@ -17,7 +17,7 @@ use Rattle.statistics.proofs.ChannelCounts.{channel_stats-push, channel_stats-fi
 use Rattle.statistics.proofs.ChannelStretches.{channel_joined-assoc, channel_joined-none}
 use Rattle.bank_ready.specs.Stands.{StandsFor as BanksStandFor}
 use Rattle.bank_ready.specs.Refreshes.{RefreshCounts, lowest_owed, StandsFor as RefreshesStandFor}
-use Rattle.bank_ready.proofs.Due.{lowest_due_from_owed}
+use Rattle.bank_ready.proofs.Due.{lowest_due_from_owed, none_owed_before}
 use Rattle.channel_step.specs.Past.{carried_requests, past_of, Past, commands_after}
 use Rattle.channel_step.specs.Stands.{activated_of}
 use Rattle.channel_step.specs.Counted.{cycle_with_hit}
@@ -340,6 +340,21 @@ skips-not_due c past until due h l =
     let within = h.within in
     let is = h.in_cycle.cycle_is in
     subst (λ n. IsInCycle (skipped_to c due) (past_of past.config past.channel (past.steps ++ replicate n None) past.mail)) (let e : due - c.cycle ≡ until - length past.steps = omega arith in e) (skips-second c past until due h)
+
+-- where no refresh is due by a cycle, none is before it
+pub none_due : (counts : RefreshCounts) (cycle until : ℕ) → cycle ≤ until → is_some (lowest_owed counts until) ≡ false → is_some (lowest_owed counts cycle) ≡ false
+none_due counts cycle until l none = ap is_some (none_owed_before counts cycle until l none)
+
+-- what is known where a channel passes over cycles, and no refresh is due by the end of them
+pub skips-none_due : (c : Channel) (past : Past) (until : ℕ) → IsInCycle c past → c.cycle ≤ until → until ≤ 2 ^ 62
+    → is_some (lowest_owed c.refresh until) ≡ false → Skips c past until until
+skips-none_due c past until h l early none = record {
+  in_cycle = h;
+  from_now = l;
+  within = omega arith;
+  early = early;
+  dues = λ cycle from before. none_due c.refresh cycle until (omega arith) none ∙ sym (lt-leb until cycle before);
+}
 
 -- the channel after the cycles that it passes over, where a refresh is due in each of them
 skips-alike_due : (c : Channel) (past : Past) (until due : ℕ) → Skips c past until due → due ≤ c.cycle

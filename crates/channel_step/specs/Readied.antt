@@ -83,9 +83,9 @@ as_issued channel now command = record { cycle = now; channel = channel; command
 abbrev pub commands_with : Past → Command → List IssuedCommand
 commands_with p command = followed_by (commands_after p) p.channel (length p.steps) command
 
--- What a channel is in the cycle after a past once its queue, its candidates and the requests that it keeps are as
--- after a command that it chose, which is a row hit or not. Its banks, its refreshes and its statistics have still to
--- take note of it.
+-- What a channel is in the cycle after a past once its queue, its candidates, its banks and the requests that it keeps
+-- are as after a command that it chose, which is a row hit or not. Its refreshes and its statistics have still to take
+-- note of it.
 pub record IsReadied (c : Channel) (p : Past) (command : Command) (hit : Bool) : Type 0 where
   pub made_for : IsMadeFor c p.config p.channel
   pub cycle_is : c.cycle ≡ length p.steps
@@ -100,7 +100,7 @@ pub record IsReadied (c : Channel) (p : Past) (command : Command) (hit : Bool) :
   pub activated_are : activated_in c.queue.log ≡ activated_of (commands_with p command) (waiting_requests c.queue.log)
   pub stats_are : c.stats ≡ stats_after p
   pub candidates_stand : CandidatesStand c.bank_candidates c.queue.log (commands_with p command)
-  pub banks_stand : BanksStandFor c.banks p.config (commands_after p)
+  pub banks_stand : BanksStandFor c.banks p.config (commands_with p command)
   pub refreshes_stand : RefreshesStandFor c.refresh p.config (commands_after p)
   pub keeps_served : KeepsServed c.served (commands_with p command) p.mail
 

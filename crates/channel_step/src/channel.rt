@@ -24,7 +24,7 @@ ghost use Rattle.channel_step.specs.Channels.{IsNextCommand, NextCommandIsFor, I
 ghost use Rattle.channel_step.specs.Channels.{IsInCycle, ForCycles, IsInSomeCycle, StaysInCycle, IsNextBefore, idle_after};
 ghost use Rattle.channel_step.specs.Channels.{CountsDrains, seen_with, seen_of, counted, after_cycle, skipped};
 ghost use Rattle.channel_step.specs.Readied.{IsChosen, IsDoing, IsReadied, IsReadiedInSomePast, HasReadied, seen_after};
-ghost use Rattle.channel_step.specs.Readied.{opening_command, closing_command, column_command_at, command_needed, rank_command};
+ghost use Rattle.channel_step.specs.Readied.{request_of, opening_command, closing_command, column_command_at, command_needed, rank_command};
 ghost use Rattle.channel_step.specs.Fit.{IsFitAfter};
 ghost use Rattle.channel_step.specs.Runs.{CanStep, CanRun, ForSpan, IssuesIfNext, HasAdvanced, IsDoneAfter, StandsAt, first_arrival_or, IsListed};
 
@@ -35,7 +35,7 @@ use crate::fr_fcfs::arrivals::{EarlierQueue, stays};
 use crate::fr_fcfs::choice::{ChannelParts, Need, next};
 use crate::fr_fcfs::needs::refresh_command;
 use crate::next_command::NextCommand;
-use crate::noting::{note_if_ref, note_served};
+use crate::noting::{note_column_command, note_if_ref, note_served};
 use crate::sending::{AnswerLatencies, AnsweringChannel, answer_latencies, keep, send};
 use bank_ready::banks::Banks;
 use bank_ready::refresh::Refresh;
@@ -50,6 +50,7 @@ use sim_base::place::BankId;
 use statistics::channels::ChannelStats;
 use std::alloc::{AllocError, Global};
 use std::ops::Range;
+use timing::gap_table::GapTable;
 
 /// A channel, with all that it keeps of its past.
 #[derive(Drop)]
@@ -79,13 +80,19 @@ struct Advance {
 }
 
 impl Channel {
-    /// The channel with a number, of a machine with this configuration, before the first cycle.
-    pub fn start(alloc: Global, config: &Config, number: ChannelId) -> Result<Channel, AllocError>
+    /// The channel with a number, of a machine with this configuration and its distances, before the first cycle.
+    pub fn start(
+        alloc: Global,
+        config: &Config,
+        gaps: &GapTable,
+        number: ChannelId,
+    ) -> Result<Channel, AllocError>
+        requires { gaps.now ≡ config.now.timing }
         ensures { IfOk result (λ channel. StandsFor channel config.now number [] []) }
     {
         let latencies = answer_latencies(alloc, config, number)?;
         let (own, queue) = copy_and_queue(alloc, config)?;
-        let (banks, bank_candidates) = banks_and_candidates(alloc, config)?;
+        let (banks, bank_candidates) = banks_and_candidates(alloc, config, gaps)?;
         let mut stats = ChannelStats::new();
         stats.draining = draining_of(config, 0);
         Ok(Channel {
@@ -324,9 +331,9 @@ impl Channel {
     }
 
     /// Counts the cycles from this one up to `until`, at most 2^62, in which nothing is issued, and nothing arrives
-    /// except in the first. The channel is in the cycle `until` then.
-    #[inline(always)]
-    fn wait(&mut self, until: Cycle)
+    /// except in the first, where a refresh is due in some of them. The channel is in the cycle `until` then.
+    #[inline(never)]
+    fn wait_for_refresh(&mut self, until: Cycle)
         requires in_cycle { IsInSomeCycle self.old self.old.cycle }
         requires span { self.old.cycle ≤ until }
         requires until { until ≤ 2 ^ 62 }
@@ -343,6 +350,24 @@ impl Channel {
         }
         if due < until {
             self.skip(true, until);
+        }
+    }
+
+    /// Counts the cycles from this one up to `until`, at most 2^62, in which nothing is issued, and nothing arrives
+    /// except in the first. The channel is in the cycle `until` then.
+    #[inline(always)]
+    fn wait(&mut self, until: Cycle)
+        requires in_cycle { IsInSomeCycle self.old self.old.cycle }
+        requires span { self.old.cycle ≤ until }
+        requires until { until ≤ 2 ^ 62 }
+        ensures same_queue { self.new.queue ≡ self.old.queue }
+        ensures in_cycle { ForCycles self.old (λ past.
+            IsInCycle self.new (idle_after past (length past.steps) until)) }
+    {
+        if self.refresh.is_due_by(until) {
+            self.wait_for_refresh(until);
+        } else if self.cycle < until {
+            self.skip(false, until);
         }
     }
 
@@ -363,7 +388,6 @@ impl Channel {
         ensures commands { IfOk result (λ u. IsListed self.old command commands.old commands.new) }
     {
         let now = self.cycle;
-        self.banks.note(command, now);
         note_if_ref(&mut self.refresh, command, now);
         self.count(seen, command, hit);
         keep(self.number, now, command, commands)
@@ -373,11 +397,13 @@ impl Channel {
     /// else its REF.
     #[inline(always)]
     fn ready_rank(&mut self, rank: u32) -> Command
-        requires { IsChosen self.old (Needs.Refresh rank) }
+        requires chosen { IsChosen self.old (Needs.Refresh rank) }
+        requires early { self.old.cycle < 2 ^ 62 }
         ensures command { ForCycles self.old (λ past. result ≡ rank_command past rank) }
         ensures readied { HasReadied self.old self.new result false }
     {
         let command = refresh_command(&self.bank_candidates, rank, self.config.groups);
+        self.banks.note(command, self.cycle);
         if let Command::Prea { rank } = command {
             self.bank_candidates.closed_rank(rank);
         }
@@ -405,7 +431,8 @@ impl Channel {
     /// Readies the channel for the ACT that the request at a place needs, in whose bank no row is open.
     #[inline(always)]
     fn open_bank(&mut self, place: usize) -> Command
-        requires { IsDoing self.old place (opening_command self.old place) }
+        requires doing { IsDoing self.old place (opening_command self.old place) }
+        requires early { self.old.cycle < 2 ^ 62 }
         ensures command { result ≡ opening_command self.old place }
         ensures readied { HasReadied self.old self.new result false }
     {
@@ -414,6 +441,7 @@ impl Channel {
         let row = request.place.row;
         self.queue.activate(place);
         self.bank_candidates.opened(bank, row, self.queue.log());
+        self.banks.note_act(bank, self.cycle);
         Command::Act {
             bank,
             row,
@@ -424,13 +452,15 @@ impl Channel {
     /// Readies the channel for the PRE that the request at a place needs, in whose bank another row is open.
     #[inline(always)]
     fn close_bank(&mut self, place: usize) -> Command
-        requires { IsDoing self.old place (closing_command self.old place) }
+        requires doing { IsDoing self.old place (closing_command self.old place) }
+        requires early { self.old.cycle < 2 ^ 62 }
         ensures command { result ≡ closing_command self.old place }
         ensures readied { HasReadied self.old self.new result false }
     {
         let request = self.queue.log().log()[place].request;
         let bank = request.place.bank_id();
         self.bank_candidates.closed(bank);
+        self.banks.note_pre(bank, self.cycle);
         Command::Pre {
             bank,
             source: request.source(),
@@ -440,8 +470,10 @@ impl Channel {
     /// Readies the channel for the column command of the request at a place, which then waits no more, and tells
     /// whether it is a row hit. On an error the request is not added to those that are kept.
     #[inline(always)]
-    fn serve(&mut self, place: usize) -> Result<bool, AllocError>
-        requires { IsDoing self.old place (column_command_at self.old place) }
+    fn serve(&mut self, place: usize, request: &Request) -> Result<bool, AllocError>
+        requires doing { IsDoing self.old place (column_command_at self.old place) }
+        requires request { request.now ≡ request_of self.old place }
+        requires early { self.old.cycle < 2 ^ 62 }
         ensures { ForCycles self.old (λ past.
             Some (column_command_at self.old place) ≡ choice_after past
             → IfOk result (IsReadied self.new past (column_command_at self.old place))) }
@@ -458,6 +490,7 @@ impl Channel {
             hit,
             self.cycle,
         )?;
+        note_column_command(&mut self.banks, request, self.cycle);
         Ok(hit)
     }
 
@@ -479,7 +512,7 @@ impl Channel {
     {
         let now = self.cycle;
         let request = self.queue.log().log()[place].request;
-        let hit = self.serve(place)?;
+        let hit = self.serve(place, &request)?;
         self.issue(request.column_command(), hit, seen, commands)?;
         let sender = AnsweringChannel {
             config: &self.config,
@@ -766,12 +799,14 @@ fn copy_and_queue(alloc: Global, config: &Config) -> Result<(Config, Queue), All
 fn banks_and_candidates(
     alloc: Global,
     config: &Config,
+    gaps: &GapTable,
 ) -> Result<(Banks, BankCandidates), AllocError>
+    requires { gaps.now ≡ config.now.timing }
     ensures banks { IfOk result (λ parts. BanksStandFor parts.0 config.now []) }
     ensures count { IfOk result (λ parts. bank_count parts.1 ≡ 16 * config.now.ranks) }
     ensures candidates { IfOk result (λ parts. CandidatesStandFor parts.1 [] (λ bank. None)) }
 {
-    let banks = Banks::new(alloc, config)?;
+    let banks = Banks::new(alloc, config, gaps)?;
     let candidates = BankCandidates::with_room(alloc, banks_of(config))?;
     Ok((banks, candidates))
 }

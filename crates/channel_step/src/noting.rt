@@ -1,17 +1,20 @@
 //! What a channel notes of a command that it issues.
 
-ghost use Rattle.std.specs.Prelude.{◌≡◌, ◌<◌, ◌^◌, ◌++◌, List, [], ◌∷◌, OnOk};
+ghost use Rattle.std.specs.Prelude.{◌≡◌, ◌<◌, ◌^◌, ◌++◌, ℕ, List, [], ◌∷◌, All, OnOk};
 ghost use Rattle.sim_base.specs.declared.config.Config.{Config};
 ghost use Rattle.sim_base.specs.declared.command.IssuedCommand.{IssuedCommand};
+ghost use Rattle.sim_base.specs.Scheduling.{column_command};
 ghost use Rattle.bank_ready.specs.Refreshes.{StandsFor as RefreshesStandFor};
+ghost use Rattle.bank_ready.specs.Stands.{rank_count, followed_by, StandsFor as BanksStandFor};
 ghost use Rattle.channel_step.specs.Owed.{RefIsOwed};
 ghost use Rattle.channel_step.specs.Runs.{with_more};
 ghost use Rattle.channel_step.specs.Queued.{kept_rows, served_now};
 
+use bank_ready::banks::Banks;
 use bank_ready::refresh::Refresh;
 use request_table::served_requests::ServedRequest;
 use sim_base::command::Command;
-use sim_base::message::{ChannelId, Cycle, Request};
+use sim_base::message::{Access, ChannelId, Cycle, Request};
 use std::alloc::AllocError;
 
 /// Counts a command, where it is a REF, which is due then.
@@ -26,6 +29,24 @@ pub(crate) fn note_if_ref(refresh: &mut Refresh, command: Command, now: Cycle)
 {
     if let Command::Ref { rank } = command {
         refresh.note_ref(now, rank);
+    }
+}
+
+/// Notes the column command of a request, which is issued in a cycle later than those of all commands noted before.
+#[inline(always)]
+pub(crate) fn note_column_command(banks: &mut Banks, request: &Request, now: Cycle)
+    requires rank { request.now.place.rank < rank_count banks.old }
+    requires now { now < 2 ^ 62 }
+    ensures stands { (s : Config) (history : List IssuedCommand) (channel : ℕ)
+        → BanksStandFor banks.old s history → All (λ i. i.cycle < now) history
+        → BanksStandFor banks.new s
+        (followed_by history channel now (column_command request.now)) }
+    ensures ranks { rank_count banks.new ≡ rank_count banks.old }
+{
+    let bank = request.place.bank_id();
+    match request.access {
+        Access::Read => banks.note_rd(bank, now),
+        Access::Write => banks.note_wr(bank, now),
     }
 }
 

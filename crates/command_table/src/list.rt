@@ -51,6 +51,16 @@ impl CommandList {
         }
     }
 
+    /// A list of no commands, with room for so many whose numbers are those of a usual machine and trace, so that none
+    /// of these is copied as the list grows. The only error is out of memory.
+    pub fn with_room(alloc: Global, commands: usize) -> Result<Self, AllocError>
+        ensures { IfOk result (λ list. list ≡ []) }
+    {
+        Ok(CommandList {
+            kept: Storage::Compact(Vec::with_capacity(alloc, commands)?),
+        })
+    }
+
     /// How many commands there are.
     pub fn len(&self) -> usize
         ensures { result ≡ length self.now }

@@ -12,6 +12,7 @@ use sim_base::message::Cycle;
 use sim_base::place::BankId;
 use std::alloc::Global;
 use std::process::Abort;
+use timing::gap_table::GapTable;
 
 /// The banks of two ranks, which take turns without a pause.
 fn banks(rt: &impl Abort, alloc: Global, n_cwl: &str) -> Banks
@@ -19,7 +20,7 @@ fn banks(rt: &impl Abort, alloc: Global, n_cwl: &str) -> Banks
 {
     let config = small(alloc, &[RANK_FIELD, n_cwl], "ranks = 2\n").expect(rt, "a machine");
     assert!(rt; config.ranks == 2, "two ranks");
-    Banks::new(alloc, &config).expect(rt, "memory")
+    Banks::new(alloc, &config, &GapTable::of(&config)).expect(rt, "memory")
 }
 
 fn bank(rank: u32, group: u32, bank: u32) -> BankId

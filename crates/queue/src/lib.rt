@@ -18,7 +18,7 @@ const MOST_PLACES: usize = 65_534;
 
 /// The requests that wait move to the front where more places are in use than twice as many and this number, so that a
 /// log in which few wait stays short, and its places in the caches.
-const SPARE_PLACES: usize = 256;
+const SPARE_PLACES: usize = 768;
 
 /// Whether a queue with `writes` writes drains, given whether it drained before.
 #[inline(always)]
@@ -71,7 +71,10 @@ impl Queue {
         requires room { room < 2 ^ 16 - 1 }
         ensures { IfOk result (λ queue. queue ≡ empty_queue room high low) }
     {
-        let places = room.saturating_mul(2).saturating_add(256).min(MOST_PLACES);
+        let places = room
+            .saturating_mul(2)
+            .saturating_add(SPARE_PLACES)
+            .min(MOST_PLACES);
         Ok(Queue {
             room,
             high,

@@ -35,6 +35,7 @@ use statistics::tables::Tables;
 use std::alloc::{AllocError, Global};
 use std::marker::Model;
 use std::sync::Arc;
+use timing::gap_table::GapTable;
 
 /// All units of a machine, and the messages in flight between them, when some cycles of its run are over. Its fields
 /// are open to the crates that run it: whoever makes one has to prove that it stands for its run.
@@ -91,15 +92,18 @@ fn add_cores(alloc: Global, machine: &Machine, parts: &mut Vec<UnitState>) -> Re
     Ok(())
 }
 
+/// For how many commands the list of a channel has room from the start: in 128 KB.
+const FIRST_COMMANDS: usize = 8192;
+
 /// A list for the commands of a channel, if they are kept.
-fn list_for(alloc: Global, kept: bool) -> Option<CommandList>
-    ensures none { IfSome result (λ rows. rows ≡ []) }
-    ensures kept { is_some result ≡ kept }
+fn list_for(alloc: Global, kept: bool) -> Result<Option<CommandList>, AllocError>
+    ensures none { IfOk result (λ list. IfSome list (λ rows. rows ≡ [])) }
+    ensures kept { IfOk result (λ list. is_some list ≡ kept) }
 {
     if kept {
-        Some(CommandList::new(alloc))
+        Ok(Some(CommandList::with_room(alloc, FIRST_COMMANDS)?))
     } else {
-        None
+        Ok(None)
     }
 }
 
@@ -107,12 +111,14 @@ fn list_for(alloc: Global, kept: bool) -> Option<CommandList>
 fn first_channel(
     alloc: Global,
     config: &Config,
+    gaps: &GapTable,
     number: ChannelId,
     keeps_served: bool,
 ) -> Result<Channel, AllocError>
+    requires { gaps.now ≡ config.now.timing }
     ensures { IfOk result (λ channel. ChannelStandsFor channel config.now number [] []) }
 {
-    let mut channel = Channel::start(alloc, config, number)?;
+    let mut channel = Channel::start(alloc, config, gaps, number)?;
     if keeps_served {
         channel.keep_served(alloc);
     }
@@ -131,10 +137,12 @@ fn add_channels(
     ensures count { OnOk result (length parts.new.items ≡ unit_count machine.now.config) }
     ensures stand { OnOk result (StandAt machine.now 0 parts.new.items) }
 {
-    for number in 0..u32::from(machine.config.channels) {
-        let first = first_channel(alloc, &machine.config, number, tables.requests)?;
+    let config = &machine.config;
+    let gaps = GapTable::of(config);
+    for number in 0..u32::from(config.channels) {
+        let first = first_channel(alloc, config, &gaps, number, tables.requests)?;
         let channel = Box::new(alloc, first)?;
-        let list = list_for(alloc, tables.commands);
+        let list = list_for(alloc, tables.commands)?;
         parts.push(UnitState::Channel(channel, list))?;
     }
     Ok(())

@@ -45,7 +45,28 @@ impl UnitRange {
     }
 }
 
+/// The least number of words of which it is worth to test several at once.
+const MANY_WORDS: usize = 16;
+
+/// The first place from `from` on whose word is before `until`, or the number of words where there is none. The words
+/// are tested one by one.
+#[inline(always)]
+fn next_of_few(words: &[Cycle], from: usize, until: Cycle) -> usize
+    requires { from ≤ length words.now }
+    ensures since { from ≤ result }
+    ensures within { result ≤ length words.now }
+    ensures passed { (k : ℕ) → from ≤ k → k < result → until ≤ slice_index_or words.now k 0 }
+    ensures wakes { result < length words.now → slice_index_or words.now result 0 < until }
+{
+    let mut place = from;
+    'search: while place < words.len() && until <= words[place] {
+        place += 1;
+    }
+    place
+}
+
 /// The first place from `from` on whose word is before `until`, or the number of words where there is none.
+#[inline(always)]
 fn next_waking(words: &[Cycle], from: usize, until: Cycle) -> usize
     requires { from ≤ length words.now }
     ensures since { from ≤ result }
@@ -53,6 +74,9 @@ fn next_waking(words: &[Cycle], from: usize, until: Cycle) -> usize
     ensures passed { (k : ℕ) → from ≤ k → k < result → until ≤ slice_index_or words.now k 0 }
     ensures wakes { result < length words.now → slice_index_or words.now result 0 < until }
 {
+    if words.len() - from < MANY_WORDS {
+        return next_of_few(words, from, until);
+    }
     match first_below(&words[from..], until) {
         Some(place) => from + place,
         None => words.len(),

@@ -17,7 +17,7 @@ use Rattle.queue.specs.View.{QueueView, is_draining}
 use Rattle.queue.specs.Candidates.{passes, marked_requests, first_place}
 use Rattle.queue.proofs.MarkedRequests.{length-marked_requests}
 use Rattle.channel_step.specs.FrFcfs.Requests.{candidates_of}
-use Rattle.channel_step.specs.FrFcfs.Offers.{includes, is_of, only, favoured_access, other_access, all_accesses}
+use Rattle.channel_step.specs.FrFcfs.Offers.{includes, is_of, going, only, favoured_access, other_access, all_accesses}
 use Rattle.channel_step.proofs.FrFcfs.Firsts.{some_filtered}
 
 -- Where the channel ever drains and some request is favoured, the favoured ones go first.
@@ -101,6 +101,10 @@ of_all_accesses requests = sym (filter-each (is_of all_accesses) requests (Each-
     any_access : (access : Access) → includes all_accesses access ≡ true
     any_access access.Read = refl
     any_access access.Write = refl
+
+-- where a channel never drains, the requests that may be served next are those of all accesses
+pub all-go : (s : Config) (queue : QueueView) → s.write_high ≡ 0 → candidates_of s queue ≡ going all_accesses queue.log
+all-go s queue never = sym (favour_never s queue never) ∙ of_all_accesses (first_of_lines (waiting_requests queue.log))
 
 bound : {X : Type 0} (p : X → Bool) (xs : List X) (k : ℕ) → position p xs ≡ Some k → k < length xs
 bound p xs k is =

@@ -1,6 +1,6 @@
 //! Which requests may be served next.
 
-ghost use Rattle.std.specs.Prelude.{◌≡◌, ◌<◌, ℕ, Option, IsTrue};
+ghost use Rattle.std.specs.Prelude.{◌≡◌, ◌<◌, ◌↔◌, ℕ, Option, IsTrue};
 ghost use Rattle.sim_base.specs.declared.config.Config.{Config};
 ghost use Rattle.queue.specs.Stands.{StandsFor as CandidatesStandFor};
 ghost use Rattle.channel_step.specs.FrFcfs.Requests.{candidates_of};
@@ -94,7 +94,7 @@ pub(crate) fn accesses_that_go(queue: &Queue, bank_candidates: &BankCandidates) 
 /// Whether requests of the same accesses go.
 #[inline(always)]
 pub(crate) fn are_same(a: Accesses, b: Accesses) -> bool
-    ensures { IsTrue result → a ≡ b }
+    ensures { IsTrue result ↔ (a ≡ b) }
 {
     a.reads == b.reads && a.writes == b.writes
 }

@@ -13,9 +13,10 @@ ghost use Rattle.queue.specs.Log.{all_requests};
 ghost use Rattle.channel_step.specs.declared.fr_fcfs.choice.Need.TheVariants as Needs;
 ghost use Rattle.channel_step.specs.FrFcfs.Arrivals.{ComesAfter, StaysFound};
 ghost use Rattle.channel_step.specs.FrFcfs.Choices.{command_of, IsFor};
-ghost use Rattle.channel_step.specs.FrFcfs.Requests.{IsInBanks, IsOfBank, AreInBanks, OfSameBanks, KnowsRows, ForRequests, finds_row_open};
+ghost use Rattle.channel_step.specs.FrFcfs.Offers.{going};
+ghost use Rattle.channel_step.specs.FrFcfs.Requests.{IsInBanks, IsOfBank, AreInBanks, OfSameBanks, KnowsRows, ForRequests, candidates_of, finds_row_open};
 
-use crate::fr_fcfs::accesses::{Accesses, accesses_that_go, are_same, goes};
+use crate::fr_fcfs::accesses::{ALL_ACCESSES, Accesses, accesses_that_go, are_same, goes};
 use crate::fr_fcfs::choice::Need;
 use crate::fr_fcfs::offers::ready;
 use bank_ready::banks::Banks;
@@ -109,7 +110,39 @@ pub(crate) struct EarlierQueue {
 }
 
 /// Whether what was found, the next cycle with a command and what needs it, is known to stay the same now that requests
+/// have arrived at a queue, where requests of the same accesses go as before: whether none of those that arrived goes
+/// before it.
+#[inline(always)]
+fn none_goes_before(
+    queue: &Queue,
+    bank_candidates: &BankCandidates,
+    banks: &Banks,
+    before: EarlierQueue,
+    found: (Cycle, Need),
+) -> bool
+    requires places { AreInBanks (rank_count banks.now) queue.now.log }
+    requires banks { OfSameBanks bank_candidates.now banks.now }
+    requires need { IsFor (rank_count banks.now) queue.now.log found.1 }
+    ensures { result ≡ true → ForRequests banks.now bank_candidates.now queue.now (λ s history.
+        candidates_of s queue.now ≡ going before.accesses queue.now.log
+        → StaysFound s history (take before.places queue.now.log) before.accesses queue.now found) }
+{
+    let (cycle, need) = found;
+    let log = queue.log().log();
+    let hit = needs_column_command(bank_candidates, log, need);
+    for place in before.places..log.len() {
+        let request = &log[place].request;
+        let is_going = goes(before.accesses, request.access);
+        if is_going && !comes_after(bank_candidates, banks, request, cycle, hit) {
+            return false;
+        }
+    }
+    true
+}
+
+/// Whether what was found, the next cycle with a command and what needs it, is known to stay the same now that requests
 /// have arrived at a queue. It stays if requests of the same accesses go, and none of those that arrived goes before it.
+/// Where the channel never drains, all go, so that nothing is asked of their accesses.
 #[inline(always)]
 pub(crate) fn stays(
     queue: &Queue,
@@ -124,19 +157,14 @@ pub(crate) fn stays(
     ensures { result ≡ true → ForRequests banks.now bank_candidates.now queue.now (λ s history.
         StaysFound s history (take before.places queue.now.log) before.accesses queue.now found) }
 {
+    if queue.high() == 0 {
+        let all = EarlierQueue {
+            places: before.places,
+            accesses: ALL_ACCESSES,
+        };
+        return none_goes_before(queue, bank_candidates, banks, all, found);
+    }
     let accesses = accesses_that_go(queue, bank_candidates);
-    if !are_same(accesses, before.accesses) {
-        return false;
-    }
-    let (cycle, need) = found;
-    let log = queue.log().log();
-    let hit = needs_column_command(bank_candidates, log, need);
-    for place in before.places..log.len() {
-        let request = &log[place].request;
-        let goes = goes(accesses, request.access);
-        if goes && !comes_after(bank_candidates, banks, request, cycle, hit) {
-            return false;
-        }
-    }
-    true
+    are_same(accesses, before.accesses)
+        && none_goes_before(queue, bank_candidates, banks, before, found)
 }

@@ -25,6 +25,7 @@ use sim_base::message::{ChannelId, Cycle, Message, earlier};
 use sim_base::place::Place;
 use statistics::channels::ChannelStats;
 use std::alloc::{AllocError, Global};
+use timing::gap_table::GapTable;
 
 /// A channel that is sent requests, run up to a cycle, and gives its commands and replies one after the other. It keeps
 /// nothing of its past but what is not taken yet: its contracts are about every past that it may have.
@@ -74,8 +75,9 @@ impl Session {
         let cores = usize::from(config.cores);
         let firsts = vec![in alloc; 0; cores]?;
         let copied = config.copy(alloc)?;
+        let gaps = GapTable::of(config);
         Ok(Session {
-            channel: Channel::start(alloc, config, number)?,
+            channel: Channel::start(alloc, config, &gaps, number)?,
             config: copied,
             number,
             cycle: 0,

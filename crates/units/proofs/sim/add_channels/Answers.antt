@@ -13,5 +13,5 @@ loop-number-preserved c =
     let count = ap length items ∙ length_push _ _ in (
       omega (arith, count, l.invariant.0),
       subst (StandAt machine 0) (sym items)
-          (first-channel machine l.parts.items l.number c.in_ok-channel.channel c.list_for-list.result l.invariant.1 l.invariant.0 (subst (λ x. ChannelStandsFor x machine.config l.number [] []) (sym c.in_ok-channel.ensures.ok) (c.in_ok-first.ensures {u = tt})) c.list_for-list.ensures.none),
+          (first-channel machine l.parts.items l.number c.in_ok-channel.channel c.in_ok-list.list l.invariant.1 l.invariant.0 (subst (λ x. ChannelStandsFor x machine.config l.number [] []) (sym c.in_ok-channel.ensures.ok) (c.in_ok-first.ensures {u = tt})) (c.in_ok-list.ensures {u = tt}).none),
     )

@@ -7,7 +7,7 @@ use Rattle.bank_ready.proofs.banks.Banks.new.Goals as goal
 pub returns-clause-stands : goal.returns-clause-stands
 returns-clause-stands c =
     let words = c.in_ok-act.ensures {u = tt} in
-    stands-first _ c.args.config.now ((c.in_ok-gaps.ensures {u = tt}).ok ∙ c.of.ensures) words.act.0 words.act.1 words.rd.0 words.rd.1 words.wr.0 words.wr.1 (c.in_ok-pre.ensures {u = tt}) refl refl
+    stands-first _ c.args.config.now ((c.in_ok-gaps.ensures {u = tt}).ok ∙ c.requires) words.act.0 words.act.1 words.rd.0 words.rd.1 words.wr.0 words.wr.1 (c.in_ok-pre.ensures {u = tt}) refl refl
     (c.in_ok-ranks.ensures {u = tt})
 
 pub returns-clause-ranks : goal.returns-clause-ranks

@@ -8,8 +8,9 @@ use Rattle.sim_base.proofs.Lists.{length-lent}
 use Rattle.bank_ready.specs.Ready.{held_until}
 use Rattle.bank_ready.specs.Words.{relation_from, group_relation_from, rank_state_after, act_pushed, rank_raised}
 use Rattle.bank_ready.proofs.Bounds.{act_grows, act_other_rank, act_to_rd, act_to_wr, act_to_pre}
-use Rattle.bank_ready.proofs.Noting.{all-words, left-words, own_inside, at_distances, lifted, lifted-own, own-word, alone, joint, joint-own, put, window-of-act, act-tests}
+use Rattle.bank_ready.proofs.Noting.{floor-left, all-words, left-words, own_inside, at_distances, lifted, lifted-own, own-word, alone, joint, joint-own, put, window-of-act, act-tests}
 use Rattle.bank_ready.proofs.Places.{act_joint}
+use Rattle.bank_ready.proofs.Stood.{noted_is}
 use Rattle.bank_ready.proofs.banks.Banks.note_act.Goals as goal
 
 pub raise_own-requires : goal.raise_own-requires
@@ -39,8 +40,8 @@ invariant_of-self c =
       all_pres = all-words 16 banks.pre _ _ banks.ranks _ c.deref_mut-5.ensures.value c.raise_own-4.auto.words same banks.all_pres;
     }
 
-pub returns : goal.returns
-returns c row source =
+pub returns-clause-stands : goal.returns-clause-stands
+returns-clause-stands c s history channel row source h later =
     let banks = c.args.self.now in
     let t = c.deref-gaps.result.now in
     let cycle = c.args.cycle in
@@ -59,7 +60,8 @@ returns c row source =
     c.note_act_in_rank.ensures k d
     ∙ ap (λ n. cond (eqb bank.rank k) (act_pushed (rank_raised t cycle kind.Act state) (cycle + n)) state) (c.from.ensures ∙ c.four_act_window.ensures.value)
     ∙ act-tests t cycle (cycle + t.n_faw) (eqb bank.rank k) state) in
-    at_distances banks _ t banks.gaps.value cycle command c.deref-gaps.ensures
+    noted_is banks _ s history cycle channel command command h later refl
+    (at_distances banks _ t banks.gaps.value cycle command c.deref-gaps.ensures
     (record {
       gaps = refl;
       act =
@@ -83,8 +85,11 @@ returns c row source =
           alone (16 * ranks) banks.pre.items _ _ _
           (lifted-own banks.pre c.deref_mut-5.result.now c.raise_own-4.new.words bank own c.bound_until-to_pre.result c.deref_mut-5.ensures.value c.raise_own-4.auto.words c.raise_own-4.ensures number)
           banks.all_pres (λ k. own-word t cycle command kind.Pre bank _ k refl c.bound_until-to_pre.ensures (act_to_pre t cycle));
-      rd_floor = λ rank other. omega arith;
-      wr_floor = λ rank other. omega arith;
+      rd_floor = λ rank other. floor-left banks.rd_floor _;
+      wr_floor = λ rank other. floor-left banks.wr_floor _;
       rank_count = states.count;
       ranks = states.each;
-    })
+    }))
+
+pub returns-clause-ranks : goal.returns-clause-ranks
+returns-clause-ranks c = length-lent c.args.self.now.ranks _ _ c.deref_mut-6.ensures.value c.note_act_in_rank.auto.ranks

@@ -3,11 +3,8 @@ use Rattle.channel_step.specs.Past.{commands_after}
 use Rattle.channel_step.specs.Channels.{StandsFor}
 use Rattle.channel_step.specs.Readied.{as_issued}
 use Rattle.channel_step.specs.declared.channel.Channel.{Channel}
-use Rattle.channel_step.proofs.Issuing.{issued-before, command-rank, command-owed, counted-fits, readied-drains, issued-stands}
+use Rattle.channel_step.proofs.Issuing.{command-owed, counted-fits, readied-drains, issued-stands}
 use Rattle.channel_step.proofs.channel.Channel.issue.Goals as goal
-
-pub note-requires-clause-rank : goal.note-requires-clause-rank
-note-requires-clause-rank c = let p = c.requires.ready in command-rank c.args.self.now p.past c.args.command c.args.hit p.is_readied
 
 pub note_if_ref-requires-clause-due : goal.note_if_ref-requires-clause-due
 note_if_ref-requires-clause-due c = let p = c.requires.ready in command-owed c.args.self.now p.past c.args.command c.args.hit p.is_readied
@@ -26,6 +23,5 @@ returns-clause-stands c past h seen =
     let history = commands_after past in
     let row = as_issued past.channel x.cycle c.args.command in
     subst (λ (z : Channel). StandsFor z past.config past.channel (past.steps ++ Some c.args.command ∷ []) past.mail) (sym c.count.ensures)
-    (issued-stands x past c.args.command c.args.hit c.args.seen c.note.new.self c.note_if_ref.new.refresh h seen
-    (c.note.ensures.stands past.config history past.channel h.banks_stand (issued-before past.channel x.cycle past.steps (sym h.cycle_is)))
+    (issued-stands x past c.args.command c.args.hit c.args.seen c.note_if_ref.new.refresh h seen
     (c.note_if_ref.ensures past.config history row refl h.refreshes_stand))

@@ -48,8 +48,11 @@ pub bounds-log-place : goal.bounds-log-place
 bounds-log-place c =
     subst (λ l. c.args.place < length l) (sym (c.log-2.ensures.log ∙ ap (λ (v : LogView). v.log) c.log.ensures)) c.requires.doing.within
 
-pub serve-requires : goal.serve-requires
-serve-requires c = c.requires.doing
+pub serve-requires-clause-doing : goal.serve-requires-clause-doing
+serve-requires-clause-doing c = c.requires.doing
+
+pub serve-requires-clause-early : goal.serve-requires-clause-early
+serve-requires-clause-early c = c.requires.early
 
 pub issue-requires-clause-early : goal.issue-requires-clause-early
 issue-requires-clause-early c =

@@ -18,8 +18,11 @@ use Rattle.channel_step.proofs.Issuing.{seen-told, has-issued, silent-act, silen
 use Rattle.channel_step.proofs.Readying.{needed-with, needed-closing, needed-moving, chosen-needs, doing}
 use Rattle.channel_step.proofs.channel.Channel.issue_for.Goals as goal
 
-pub open_bank-command-requires : goal.open_bank-command-requires
-open_bank-command-requires c =
+pub open_bank-command-requires-clause-early : goal.open_bank-command-requires-clause-early
+open_bank-command-requires-clause-early c = c.requires.early
+
+pub open_bank-command-requires-clause-doing : goal.open_bank-command-requires-clause-doing
+open_bank-command-requires-clause-doing c =
     let x = c.args.self.now in
     let place = c.args.place in
     let r = request_at x.queue.log place in
@@ -62,8 +65,11 @@ issue-requires-clause-early c =
     let ready = c.open_bank-command.ensures.readied p.past p.is_in (ap Some (c.open_bank-command.ensures.command ∙ sym is) ∙ chosen-needs x place p) in
     omega (arith, ready.cycle_is, p.is_in.cycle_is, c.requires.early)
 
-pub close_bank-command-requires : goal.close_bank-command-requires
-close_bank-command-requires c =
+pub close_bank-command-requires-clause-early : goal.close_bank-command-requires-clause-early
+close_bank-command-requires-clause-early c = c.requires.early
+
+pub close_bank-command-requires-clause-doing : goal.close_bank-command-requires-clause-doing
+close_bank-command-requires-clause-doing c =
     let x = c.args.self.now in
     let place = c.args.place in
     let r = request_at x.queue.log place in

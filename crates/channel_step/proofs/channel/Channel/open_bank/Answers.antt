@@ -12,13 +12,14 @@ use Rattle.queue.specs.Stands.{bank_count, with_row, StandsFor as CandidatesStan
 use Rattle.queue.proofs.Stood.{activated_stand}
 use Rattle.channel_step.specs.Past.{commands_after}
 use Rattle.channel_step.specs.Queued.{request_at}
-use Rattle.channel_step.specs.Readied.{IsReadied}
-use Rattle.channel_step.proofs.Readying.{placed-among, opened-readied}
+use Rattle.bank_ready.specs.Stands.{rank_count, StandsFor as BanksStandFor}
+use Rattle.channel_step.specs.Readied.{commands_with, IsReadied}
+use Rattle.channel_step.proofs.Readying.{placed-among, placed-rank, noted-at, noted-later, opened-readied}
 use Rattle.channel_step.proofs.channel.Channel.open_bank.Goals as goal
 
 pub opened-requires : goal.opened-requires
 opened-requires c =
-    let p = c.requires in
+    let p = c.requires.doing in
     let x = c.args.self.now in
     let read : get_or c.log-2.result.now c.args.place absent ≡ get_or x.queue.log c.args.place absent =
     ap (λ l. get_or l c.args.place absent) (c.log-2.ensures.log ∙ ap (λ (v : LogView). v.log) c.log.ensures) in
@@ -43,6 +44,16 @@ returns-clause-readied c past h chosen =
     let placed =
     subst (λ k. CandidatesStandFor c.opened.new.self (activated_at x.queue.log place) (with_row (number_of_bank (bank_in r.place)) (Some k) rows)) row
     (subst (λ (b : BankId). CandidatesStandFor c.opened.new.self (activated_at x.queue.log place) (with_row (number_of_bank b) (Some (get_or c.log-2.result.now place absent).request.place.row) rows)) bank stands) in
-    subst (λ (issued : Command). IsReadied (record x { queue = c.activate.new.self; bank_candidates = c.opened.new.self }) past issued false) (sym command)
-    (subst (λ (q : QueueView). IsReadied (record x { queue = q; bank_candidates = c.opened.new.self }) past (needed_at None r) false) (sym c.activate.ensures)
-    (opened-readied x past place c.opened.new.self h c.requires.within c.requires.waits (ap Some (sym command) ∙ chosen) c.opened.ensures.banks placed))
+    subst (λ (issued : Command). IsReadied (record x { queue = c.activate.new.self; banks = c.note_act.new.self; bank_candidates = c.opened.new.self }) past issued false) (sym command)
+    (subst (λ (q : QueueView). IsReadied (record x { queue = q; banks = c.note_act.new.self; bank_candidates = c.opened.new.self }) past (needed_at None r) false) (sym c.activate.ensures)
+    (opened-readied x past place c.opened.new.self c.note_act.new.self h c.requires.doing.within c.requires.doing.waits (ap Some (sym command) ∙ chosen) c.opened.ensures.banks placed
+    (subst (λ z. BanksStandFor c.note_act.new.self past.config (commands_with past z)) command (noted-at x past _ c.note_act.new.self h
+    (c.note_act.ensures.stands past.config (commands_after past) past.channel _ c.source.result h.banks_stand (noted-later x past h))))))
+
+pub note_act-requires-clause-rank : goal.note_act-requires-clause-rank
+note_act-requires-clause-rank c =
+    let p = c.requires.doing in
+    let x = c.args.self.now in
+    let read : get_or c.log-2.result.now c.args.place absent ≡ get_or x.queue.log c.args.place absent =
+    ap (λ l. get_or l c.args.place absent) (c.log-2.ensures.log ∙ ap (λ (v : LogView). v.log) c.log.ensures) in
+    subst (λ (b : BankId). b.rank < rank_count x.banks) (sym (c.bank_id-bank.ensures ∙ ap (λ (a : Arrived). bank_in a.request.place) read)) (placed-rank x p.past c.args.place p.is_in p.within)

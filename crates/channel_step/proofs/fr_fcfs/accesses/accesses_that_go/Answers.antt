@@ -1,16 +1,13 @@
 -- All requests go where the channel never drains, and otherwise those of one access.
-use Rattle.std.proofs.Common.{◌≡◌, sym, ap, ◌∙◌, arith}
-use Rattle.sim_base.specs.Scheduling.{first_of_lines}
-use Rattle.queue.specs.Log.{waiting_requests}
+use Rattle.std.proofs.Common.{◌≡◌, ap, ◌∙◌, arith}
 use Rattle.channel_step.specs.FrFcfs.Offers.{only, going}
-use Rattle.channel_step.proofs.FrFcfs.Favoured.{favour_never, of_all_accesses}
+use Rattle.channel_step.proofs.FrFcfs.Favoured.{all-go}
 use Rattle.channel_step.proofs.fr_fcfs.accesses.accesses_that_go.Goals as goal
 
 pub returns-then-high-eq0 : goal.returns-then-high-eq0
 returns-then-high-eq0 c s open_rows high stands =
-    let queue = c.args.queue.now in
     let never : s.write_high ≡ 0 = omega (arith, high, c.if-high-eq0.true, c.high.ensures) in
-    sym (favour_never s queue never) ∙ of_all_accesses (first_of_lines (waiting_requests queue.log))
+    all-go s c.args.queue.now never
 
 pub returns-in-Read : goal.returns-in-Read
 returns-in-Read c s open_rows high stands =
