@@ -1,9 +1,9 @@
 -- What a channel chooses: a command in the name of a request that waits, or a refresh.
-use Rattle.std.proofs.Common.{◌≡◌, ℕ, zero, suc, ◌+◌, ◌<◌, Bool, true, eqb, ltb, List, Option, Some, None, refl, arith}
-use Rattle.std.specs.Prelude.{find, option_map}
+use Rattle.std.proofs.Common.{◌≡◌, ℕ, zero, suc, ◌+◌, ◌<◌, Bool, true, false, eqb, ltb, List, Option, Some, None, refl, sym, subst, ◌∙◌, arith}
+use Rattle.std.specs.Prelude.{find, option_map, is_some}
 use Rattle.std.specs.Option.{IfSome}
 use Rattle.std.specs.List.{AllByRecursion as Each, range_with_len}
-use Rattle.std.proofs.lemmas.Bool.{cond_both, ltb-true}
+use Rattle.std.proofs.lemmas.Bool.{cond_both, ltb-true, true≢false}
 use Rattle.sim_base.proofs.Each.{IfSome-find, Each-all}
 use Rattle.sim_base.proofs.Ordered.{Each-weaker}
 use Rattle.sim_base.proofs.Served.{or_else-each, candidates-each}
@@ -11,7 +11,7 @@ use Rattle.sim_base.specs.declared.config.Config.{Config}
 use Rattle.sim_base.specs.Counts.{source_in}
 use Rattle.sim_base.specs.History.{below}
 use Rattle.sim_base.specs.Places.{bank_in}
-use Rattle.sim_base.specs.Rules.{is_legal, has_open_bank, open_row, rank_of}
+use Rattle.sim_base.specs.Rules.{is_legal, has_open_bank, open_row, rank_of, kind_of}
 use Rattle.sim_base.specs.Scheduling.{source_of, column_command, needed_at, needed, ready_hit, ready_row, first_ready, refresh_command, if_legal, candidates, choice_between, due, lowest_due}
 use Rattle.sim_base.specs.declared.command.Command.{Command}
 use Rattle.sim_base.specs.declared.command.Command.TheVariants.{Act, Rd, Wr, Pre, Prea, Ref}
@@ -19,6 +19,7 @@ use Rattle.sim_base.specs.declared.command.IssuedCommand.{IssuedCommand}
 use Rattle.sim_base.specs.declared.command.Source.{Source}
 use Rattle.sim_base.specs.declared.message.Request.{Request}
 use Rattle.bank_ready.specs.Refreshes.{IsNoRefresh}
+use Rattle.bank_ready.specs.Words.{names_rank}
 use Rattle.channel_step.proofs.Marks.{column_either}
 
 -- what holds of all that is needed holds of what is chosen
@@ -55,6 +56,24 @@ needed-cases P r a b c d (Some row) =
 pub refresh-cases : (P : Command → Type 0) (s : Config) (history : List IssuedCommand) (rank : ℕ) → P (Prea rank) → P (Ref rank) → P (refresh_command s history rank)
 unfolding refresh_command
 refresh-cases P s history rank a b = cond_both (has_open_bank s history rank) (Prea rank) (Ref rank) P (λ e. a) (λ e. b)
+
+-- what a request needs names no rank alone, and what refreshes a rank does
+needs-no_rank : (history : List IssuedCommand) (r : Request) → names_rank (kind_of (needed history r)) ≡ false
+unfolding needed
+needs-no_rank history r =
+    needed-cases (λ c. names_rank (kind_of c) ≡ false) r (λ row. refl) (λ row column. refl) (λ row column. refl) refl (open_row (bank_in r.place) history)
+
+-- what a request needs is chosen only where no refresh is due
+pub request-alone : (s : Config) (history : List IssuedCommand) (now : ℕ) (requests : List Request) (due : Option ℕ) (r : Request)
+    → Some (needed history r) ≡ choice_between s history now requests due → is_some due ≡ false
+unfolding choice_between if_legal
+request-alone s history now requests None r e = refl
+request-alone s history now requests (Some rank) r e =
+    let refreshes : names_rank (kind_of (needed history r)) ≡ true =
+    subst (λ o. IfSome o (λ c. names_rank (kind_of c) ≡ true)) (sym e)
+    (cond_both (is_legal s history now (refresh_command s history rank)) (Some (refresh_command s history rank)) None (λ o. IfSome o (λ c. names_rank (kind_of c) ≡ true))
+    (λ f. refresh-cases (λ c. names_rank (kind_of c) ≡ true) s history rank refl refl) (λ f. tt)) in
+    absurd (true≢false (sym refreshes ∙ needs-no_rank history r))
 
 ifsome-all : {X : Type 0} (P : X → Type 0) (o : Option X) → ((x : X) → P x) → IfSome o P
 ifsome-all P None h = tt

@@ -10,12 +10,13 @@ use Rattle.sim_base.specs.declared.config.Config.{Config}
 use Rattle.sim_base.specs.Counts.{queued_max}
 use Rattle.sim_base.specs.History.{issued_at, issued_commands, messages_of, issued_now}
 use Rattle.sim_base.specs.Rules.{rank_of, row_after, open_row}
-use Rattle.sim_base.specs.Scheduling.{choice, choice_between, candidates, lowest_due, due, drains, queued_requests, serves, refresh_command, queue_room}
+use Rattle.sim_base.specs.Scheduling.{choice, choice_between, candidates, lowest_due, due, drains, queued_requests, serves, needed, refresh_command, queue_room}
 use Rattle.sim_base.specs.declared.command.Command.{Command}
 use Rattle.sim_base.specs.declared.command.Command.TheVariants.{Act, Rd, Wr, Pre, Prea, Ref}
 use Rattle.sim_base.specs.declared.command.IssuedCommand.{IssuedCommand}
 use Rattle.sim_base.specs.declared.command.Source.{Source}
 use Rattle.sim_base.specs.declared.message.Message.{Message}
+use Rattle.sim_base.specs.declared.message.Request.{Request}
 use Rattle.sim_base.specs.declared.place.BankId.{BankId}
 use Rattle.sim_base.proofs.Added.{length-push_suc}
 use Rattle.sim_base.proofs.Lists.{length-filter-le}
@@ -54,7 +55,7 @@ use Rattle.channel_step.proofs.Foreseen.{foreseen-unknown}
 use Rattle.channel_step.proofs.Requests.{unserved_by, queued_requests-command}
 use Rattle.channel_step.proofs.Spans.{drains_before-row, choice-next}
 use Rattle.channel_step.proofs.Cycle.{cycle-with}
-use Rattle.channel_step.proofs.Chosen.{chosen-rank, chosen-ref_is_due, RefIsDue, refresh-cases}
+use Rattle.channel_step.proofs.Chosen.{chosen-ref_is_due, RefIsDue, refresh-cases, request-alone}
 use Rattle.channel_step.proofs.Places.{queue-ranks}
 
 -- what a channel is readied by: a log of which one more or none is served, with its marks, and the candidates for it
@@ -257,6 +258,14 @@ chosen-is : (s : Config) (channel : ℕ) (steps : List (Option Command)) (mail :
     ≡ choice_between s (issued_commands channel steps) (length steps) (candidates s (drains s channel steps mail (length steps)) (queued_requests (issued_commands channel steps) mail (length steps + 1)))
     (lowest_due s (issued_commands channel steps) (length steps))
 chosen-is s channel steps mail command e = e ∙ choice-next s channel steps mail _ _ refl refl
+
+-- no refresh is due in a cycle in which a channel issues what a request needs
+pub none-due : (c : Channel) (past : Past) (r : Request) → IsInCycle c past → Some (needed (commands_after past) r) ≡ choice_after past
+    → false ≡ is_some (lowest_owed c.refresh c.cycle)
+none-due c past r h chosen =
+    let history = commands_after past in
+    sym (request-alone past.config history (length past.steps) _ _ r (chosen-is past.config past.channel past.steps past.mail (needed history r) chosen))
+    ∙ ap is_some (sym (sym (lowest_due_from_owed c.refresh past.config history c.cycle h.refreshes_stand) ∙ ap (lowest_due past.config history) h.cycle_is))
 
 -- a REF that a channel issues is due
 pub command-owed : (c : Channel) (past : Past) (command : Command) (hit : Bool) → IsReadied c past command hit

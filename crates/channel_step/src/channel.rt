@@ -538,7 +538,8 @@ impl Channel {
             (command_needed self.old (commands_after past) place)
             commands.old commands.new messages.old.items messages.new.items) }
     {
-        let seen = self.seen(self.refreshing());
+        // no refresh is due where a request is served
+        let seen = self.seen(false);
         let asked = self.queue.log().log()[place].request.place;
         match self.bank_candidates.open_row(asked.bank_id()) {
             None => {

@@ -114,7 +114,7 @@ fn wakes_before(words: &[Cycle], cycle: Cycle) -> bool
 }
 
 /// Where a machine in turns goes on from: the least wake word, or the limit if that comes sooner, where neither kind is
-/// past it.
+/// past it. After a turn of the cores none of them wakes before they stand, so the channels are asked first.
 fn later(kinds: &UnitsByKind, at: TurnCycles, limit: Cycle) -> TurnCycles
     requires order { at.channels_at ≤ at.cores_at }
     requires within { at.cores_at ≤ limit }
@@ -126,10 +126,13 @@ fn later(kinds: &UnitsByKind, at: TurnCycles, limit: Cycle) -> TurnCycles
 {
     let core_words = kinds.cores.words.as_slice();
     let channel_words = kinds.channels.words.as_slice();
-    if wakes_before(core_words, at.cores_at) || wakes_before(channel_words, at.cores_at) {
+    if wakes_before(channel_words, at.cores_at) {
         return at;
     }
     let core_wake = next_wake(core_words, limit);
+    if core_wake < at.cores_at {
+        return at;
+    }
     let begin = next_wake(channel_words, core_wake);
     TurnCycles {
         cores_at: begin,

@@ -16,15 +16,11 @@ returns-clause-turns c machine links h =
     let channels : All (λ word. begin ≤ word) kinds.channels.words.items =
     subst (All (λ word. begin ≤ word)) c.as_slice-channel_words.ensures.value c.next_wake-begin.ensures.sleep in
     let since : c.args.at.cores_at ≤ begin =
-    c.next_wake-begin.ensures.since c.args.at.cores_at
-    (c.next_wake-core_wake.ensures.since c.args.at.cores_at c.requires.within (c.wakes_before.ensures c.if-wakes_before.false))
-    (c.wakes_before-else-wakes_before.ensures c.if-wakes_before-2.false) in
+    c.next_wake-begin.ensures.since c.args.at.cores_at (omega (arith, c.if-core_wake-at.false)) (c.wakes_before.ensures c.if-wakes_before.false) in
     (h.0, turns-later machine c.args.at.cores_at c.args.at.channels_at begin (all_units kinds) (all_words kinds) links h.1 since (omega (arith, since, c.requires.order)) (All-append (λ word. begin ≤ word) _ _ cores channels))
 
 pub returns-clause-since : goal.returns-clause-since
 returns-clause-since c =
     let since : c.args.at.cores_at ≤ c.next_wake-begin.result =
-    c.next_wake-begin.ensures.since c.args.at.cores_at
-    (c.next_wake-core_wake.ensures.since c.args.at.cores_at c.requires.within (c.wakes_before.ensures c.if-wakes_before.false))
-    (c.wakes_before-else-wakes_before.ensures c.if-wakes_before-2.false) in
+    c.next_wake-begin.ensures.since c.args.at.cores_at (omega (arith, c.if-core_wake-at.false)) (c.wakes_before.ensures c.if-wakes_before.false) in
     omega (arith, since, c.requires.order)

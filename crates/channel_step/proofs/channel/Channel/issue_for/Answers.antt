@@ -14,7 +14,7 @@ use Rattle.channel_step.specs.Past.{commands_after}
 use Rattle.channel_step.specs.Channels.{seen_with}
 use Rattle.channel_step.specs.Queued.{request_at}
 use Rattle.channel_step.specs.Runs.{HasIssued}
-use Rattle.channel_step.proofs.Issuing.{seen-told, has-issued, silent-act, silent-pre}
+use Rattle.channel_step.proofs.Issuing.{seen-told, none-due, has-issued, silent-act, silent-pre}
 use Rattle.channel_step.proofs.Readying.{needed-with, needed-closing, needed-moving, chosen-needs, doing}
 use Rattle.channel_step.proofs.channel.Channel.issue_for.Goals as goal
 
@@ -48,7 +48,7 @@ issue-requires-clause-ready c =
     record {
       past = p.past;
       is_readied = c.open_bank-command.ensures.readied p.past p.is_in (ap Some (c.open_bank-command.ensures.command ∙ sym is) ∙ chosen-needs x place p);
-      seen_is = seen-told x p.past c.refreshing.result c.seen-seen.result p.is_in c.seen-seen.ensures c.refreshing.ensures;
+      seen_is = seen-told x p.past false c.seen-seen.result p.is_in c.seen-seen.ensures (none-due x p.past r p.is_in (chosen-needs x place p));
     }
 
 pub issue-requires-clause-early : goal.issue-requires-clause-early
@@ -95,7 +95,7 @@ issue-requires-in-Some-clause-ready c =
     record {
       past = p.past;
       is_readied = c.close_bank-command.ensures.readied p.past p.is_in (ap Some (c.close_bank-command.ensures.command ∙ sym is) ∙ chosen-needs x place p);
-      seen_is = seen-told x p.past c.refreshing.result c.seen-seen.result p.is_in c.seen-seen.ensures c.refreshing.ensures;
+      seen_is = seen-told x p.past false c.seen-seen.result p.is_in c.seen-seen.ensures (none-due x p.past r p.is_in (chosen-needs x place p));
     }
 
 pub issue-requires-in-Some-clause-early : goal.issue-requires-in-Some-clause-early
@@ -136,7 +136,7 @@ returns-in-None c past h chosen =
     c.open_row.ensures x.queue.log history h.candidates_stand ∙ ap (λ (b : BankId). open_row b history) (c.bank_id.ensures ∙ ap bank_in place_is) in
     let is : needed history r ≡ needed_at None r = needed-with history r None (sym c.in-None.is ∙ opens) in
     let ready = c.open_bank-command.ensures.readied past h (ap Some (c.open_bank-command.ensures.command ∙ sym is) ∙ chosen) in
-    let seen = seen-told x past c.refreshing.result c.seen-seen.result h c.seen-seen.ensures c.refreshing.ensures in
+    let seen = seen-told x past false c.seen-seen.result h c.seen-seen.ensures (none-due x past r h chosen) in
     let before = c.args.messages.now.items in
     on_ok_weaker c.issue.result
     (λ told. has-issued c.open_bank-command.new.self c.issue.new.self past (needed history r) c.open_bank-command.result false c.args.commands.now c.issue.new.commands before before ready
@@ -155,7 +155,7 @@ returns-in-Some c past h chosen =
     c.open_row.ensures x.queue.log history h.candidates_stand ∙ ap (λ (b : BankId). open_row b history) (c.bank_id.ensures ∙ ap bank_in place_is) in
     let is : needed history r ≡ Pre (bank_in r.place) (source_of r) = needed-closing history r c.in-Some.row (sym c.in-Some.is ∙ opens) (λ e. c.if-row-asked.true (e ∙ sym (ap (λ (q : Place). q.row) place_is))) in
     let ready = c.close_bank-command.ensures.readied past h (ap Some (c.close_bank-command.ensures.command ∙ sym is) ∙ chosen) in
-    let seen = seen-told x past c.refreshing.result c.seen-seen.result h c.seen-seen.ensures c.refreshing.ensures in
+    let seen = seen-told x past false c.seen-seen.result h c.seen-seen.ensures (none-due x past r h chosen) in
     let before = c.args.messages.now.items in
     on_ok_weaker c.issue-in-Some.result
     (λ told. has-issued c.close_bank-command.new.self c.issue-in-Some.new.self past (needed history r) c.close_bank-command.result false c.args.commands.now c.issue-in-Some.new.commands before before ready
@@ -181,7 +181,10 @@ bounds-log-place c =
     subst (λ l. c.args.place < length l) (sym (c.log-2.ensures.log ∙ ap (λ (v : LogView). v.log) c.log.ensures)) c.requires.chosen.place.0
 
 pub issue_column_command-requires-clause-seen : goal.issue_column_command-requires-clause-seen
-issue_column_command-requires-clause-seen c = c.seen-seen.ensures ∙ ap (seen_with c.args.self.now) c.refreshing.ensures
+issue_column_command-requires-clause-seen c =
+    let x = c.args.self.now in
+    let p = c.requires.chosen in
+    c.seen-seen.ensures ∙ ap (seen_with x) (none-due x p.past (request_at x.queue.log c.args.place) p.is_in (chosen-needs x c.args.place p))
 
 pub issue_column_command-requires-clause-early : goal.issue_column_command-requires-clause-early
 issue_column_command-requires-clause-early c = c.requires.early
