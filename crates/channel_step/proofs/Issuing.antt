@@ -1,5 +1,5 @@
 -- What a command that a channel issues leaves.
-use Rattle.std.proofs.Common.{◌≡◌, ℕ, suc, ◌+◌, ◌<◌, ◌≤◌, ◌^◌, Bool, false, List, [], ◌∷◌, ◌++◌, length, Option, Some, None, refl, sym, ap, ap₂, subst, ◌∙◌, add-one, arith}
+use Rattle.std.proofs.Common.{◌≡◌, ℕ, suc, ◌+◌, ◌-◌, ◌<◌, ◌≤◌, ◌^◌, Bool, false, List, [], ◌∷◌, ◌++◌, length, Option, Some, None, refl, sym, ap, ap₂, subst, ◌∙◌, add-one, add-zero, zero-add, arith}
 use Rattle.std.specs.Prelude.{is_some, not, filter_map, max, Vec}
 use Rattle.std.specs.declared.alloc.Global.{Global}
 use Rattle.std.specs.Option.{IfSome}
@@ -9,25 +9,26 @@ use Rattle.sim_base.proofs.Ordered.{Each-weaker}
 use Rattle.sim_base.specs.declared.config.Config.{Config}
 use Rattle.sim_base.specs.Counts.{queued_max}
 use Rattle.sim_base.specs.History.{issued_at, issued_commands, messages_of, issued_now}
-use Rattle.sim_base.specs.Rules.{rank_of, row_after, open_row}
-use Rattle.sim_base.specs.Scheduling.{choice, choice_between, candidates, lowest_due, due, drains, queued_requests, serves, needed, refresh_command, queue_room}
+use Rattle.sim_base.specs.Rules.{kind_of, row_after, open_row}
+use Rattle.sim_base.specs.Scheduling.{choice, choice_between, candidates, lowest_due, due, drains, queued_requests, serves, refresh_command, queue_room}
 use Rattle.sim_base.specs.declared.command.Command.{Command}
 use Rattle.sim_base.specs.declared.command.Command.TheVariants.{Act, Rd, Wr, Pre, Prea, Ref}
 use Rattle.sim_base.specs.declared.command.IssuedCommand.{IssuedCommand}
 use Rattle.sim_base.specs.declared.command.Source.{Source}
 use Rattle.sim_base.specs.declared.message.Message.{Message}
-use Rattle.sim_base.specs.declared.message.Request.{Request}
 use Rattle.sim_base.specs.declared.place.BankId.{BankId}
 use Rattle.sim_base.proofs.Added.{length-push_suc}
 use Rattle.sim_base.proofs.Lists.{length-filter-le}
 use Rattle.sim_base.proofs.OpenRows.{open_row-push}
-use Rattle.bank_ready.specs.Stands.{rank_count, StandsFor as BanksStandFor}
+use Rattle.bank_ready.specs.Stands.{StandsFor as BanksStandFor}
 use Rattle.bank_ready.specs.declared.banks.Banks.{Banks}
 use Rattle.bank_ready.specs.Refreshes.{RefreshCounts, owed, lowest_owed, StandsFor as RefreshesStandFor}
 use Rattle.bank_ready.proofs.Due.{due_from_owed, lowest_due_from_owed}
-use Rattle.statistics.specs.Channels.{channel_stats, channel_cycle_with, channel_joined, issues_hit, is_late_act, ChannelFits}
+use Rattle.statistics.specs.Channels.{channel_stats, channel_cycle_with, channel_joined, one_command, issues_hit, is_late_act, ChannelFits}
 use Rattle.statistics.specs.declared.channels.ChannelStats.{ChannelStats}
 use Rattle.statistics.proofs.ChannelCounts.{channel_stats-fit, issued_commands-push, channel_stats-push}
+use Rattle.statistics.proofs.ChannelStretches.{channel_joined-assoc}
+use Rattle.statistics.specs.Counts.{sum_of_counts}
 use Rattle.statistics.proofs.ChannelChoices.{choice-not_late}
 use Rattle.queue.specs.declared.request_log.Arrived.{Arrived}
 use Rattle.queue.specs.Log.{waiting_requests, all_requests}
@@ -44,23 +45,21 @@ use Rattle.channel_step.specs.Counted.{cycle_with_hit}
 use Rattle.channel_step.specs.Owed.{RefIsOwed}
 use Rattle.channel_step.specs.Runs.{with_more, HasIssued}
 use Rattle.std.proofs.lemmas.List.{append-nil}
-use Rattle.channel_step.specs.Channels.{CandidatesStand, KeepsServed, StandsFor, IsInCycle, CountsDrains, seen_of, seen_with}
-use Rattle.channel_step.specs.Readied.{as_issued, commands_with, IsReadied, seen_after}
-use Rattle.channel_step.specs.declared.counting.Seen.{Seen}
+use Rattle.channel_step.specs.Channels.{CandidatesStand, KeepsServed, StandsFor, IsInCycle}
+use Rattle.channel_step.specs.Readied.{ServesAfter, HasCounted, as_issued, commands_with, IsReadied}
 use Rattle.channel_step.specs.declared.next_command.NextCommand.TheVariants.{Unknown}
 use Rattle.channel_step.specs.declared.channel.Channel.{Channel}
-use Rattle.channel_step.proofs.Deciding.{drain_decided-drains}
-use Rattle.channel_step.proofs.Draining.{drains-counted}
 use Rattle.channel_step.proofs.Foreseen.{foreseen-unknown}
 use Rattle.channel_step.proofs.Requests.{unserved_by, queued_requests-command}
+use Rattle.channel_step.proofs.Skipping.{there-before}
+use Rattle.channel_step.proofs.Stretches.{idle-choice}
 use Rattle.channel_step.proofs.Spans.{drains_before-row, choice-next}
 use Rattle.channel_step.proofs.Cycle.{cycle-with}
 use Rattle.channel_step.proofs.Chosen.{chosen-ref_is_due, RefIsDue, refresh-cases, request-alone}
-use Rattle.channel_step.proofs.Places.{queue-ranks}
 
 -- what a channel is readied by: a log of which one more or none is served, with its marks, and the candidates for it
 pub readied : (c : Channel) (past : Past) (command : Command) (hit : Bool) (log : List Arrived) (bank_candidates : BankCandidates) (banks : Banks) (served : Option (Vec ServedRequest Global))
-    → IsInCycle c past → Some command ≡ choice_after past → issues_hit (commands_after past) (Some command) ≡ hit
+    → HasCounted c past → Some command ≡ choice_after past → issues_hit (commands_after past) (Some command) ≡ hit
     → all_requests log ≡ all_requests c.queue.log → waiting_requests log ≡ unserved_by command (waiting_requests c.queue.log)
     → activated_in log ≡ activated_of (commands_after past ++ as_issued past.channel (length past.steps) command ∷ []) (waiting_requests log)
     → bank_count bank_candidates ≡ bank_count c.bank_candidates
@@ -69,102 +68,101 @@ pub readied : (c : Channel) (past : Past) (command : Command) (hit : Bool) (log 
     → KeepsServed served (commands_after past ++ as_issued past.channel (length past.steps) command ∷ []) past.mail
     → IsReadied (record c { queue = record c.queue { log = log }; banks = banks; bank_candidates = bank_candidates; served = served }) past command hit
 readied c past command hit log bank_candidates banks served h chosen hit_is all left marks count stands noted keeps =
-    let j = h.joined in
+    let i = h.is_in in
+    let j = i.joined in
     let history = commands_after past in
     let row = as_issued past.channel (length past.steps) command in
-    let some : length (waiting_requests c.queue.log) ≤ queue_room past.config = h.made_for.within in
+    let some : length (waiting_requests c.queue.log) ≤ queue_room past.config = i.made_for.within in
     let fewer : length (waiting_requests log) ≤ length (waiting_requests c.queue.log) = omega (arith, ap length left, length-filter-le (λ r. not (serves r command)) (waiting_requests c.queue.log)) in
     record {
       made_for = record {
-        config_is = h.made_for.config_is;
-        number_is = h.made_for.number_is;
-        high_is = h.made_for.high_is;
-        low_is = h.made_for.low_is;
-        latencies_are = h.made_for.latencies_are;
-        room_is = h.made_for.room_is;
-        banks_are = count ∙ h.made_for.banks_are;
-        in_banks = subst (All (IsInBanks past.config.ranks)) (sym all) h.made_for.in_banks;
+        config_is = i.made_for.config_is;
+        number_is = i.made_for.number_is;
+        high_is = i.made_for.high_is;
+        low_is = i.made_for.low_is;
+        latencies_are = i.made_for.latencies_are;
+        room_is = i.made_for.room_is;
+        banks_are = count ∙ i.made_for.banks_are;
+        in_banks = subst (All (IsInBanks past.config.ranks)) (sym all) i.made_for.in_banks;
         within = omega arith;
-        longest = h.made_for.longest;
+        longest = h.longest;
       };
-      cycle_is = h.cycle_is;
+      cycle_is = i.cycle_is;
       requests = j.requests;
       arrived = j.arrived;
       differ = j.differ;
       chosen = chosen;
       hit_is = hit_is;
-      within_before = omega (arith, ap length j.queue_is);
       queue_is = left ∙ ap (unserved_by command) j.queue_is ∙ sym (queued_requests-command history row past.mail (length past.steps + 1));
       drained_is = j.drained_is;
       activated_are = marks;
-      stats_are = j.stats_are;
+      stats_are = h.stats_are;
       candidates_stand =
           same_rows bank_candidates log (λ bank. row_after (bank_at bank) (open_row (bank_at bank) history) command)
           (λ bank. open_row (bank_at bank) (history ++ row ∷ [])) stands
           (λ bank there. sym (open_row-push (bank_at bank) history row));
       banks_stand = noted;
-      refreshes_stand = h.refreshes_stand;
+      refreshes_stand = i.refreshes_stand;
       keeps_served = keeps;
     }
-
--- what is seen of a channel in a cycle is what is seen after its steps
-pub seen-is : (c : Channel) (past : Past) → IsInCycle c past → seen_of c c.cycle ≡ seen_after past
-seen-is c past h =
-    let j = h.joined in
-    let history = commands_after past in
-    let refreshing : is_some (lowest_owed c.refresh c.cycle) ≡ is_some (lowest_due past.config history (length past.steps)) =
-    ap is_some (sym (lowest_due_from_owed c.refresh past.config history c.cycle h.refreshes_stand) ∙ ap (lowest_due past.config history) h.cycle_is) in
-    let queued : length (waiting_requests c.queue.log) ≡ length (queued_requests history past.mail (length past.steps + 1)) = ap length j.queue_is in
-    let draining = drain_decided-drains c past h ∙ j.drained_is in
-    (λ i. record { queued = queued i; refreshing = refreshing i; draining = draining i })
-
-pub seen-told : (c : Channel) (past : Past) (refreshing : Bool) (seen : Seen) → IsInCycle c past → seen ≡ seen_with c refreshing
-    → refreshing ≡ is_some (lowest_owed c.refresh c.cycle) → seen ≡ seen_after past
-seen-told c past refreshing seen h e f = e ∙ ap (seen_with c) f ∙ seen-is c past h
 
 pub late-none : (s : Config) (channel : ℕ) (steps : List (Option Command)) (mail : List Message) (command : Command) → Some command ≡ choice s channel steps mail → is_late_act (issued_commands channel steps) (Some command) ≡ false
 late-none s channel steps mail command e = subst (λ o. is_late_act (issued_commands channel steps) o ≡ false) (sym e) (choice-not_late s channel steps mail)
 
--- what is counted of a cycle is what its statistics say
-pub counted-is : (c : Channel) (past : Past) (command : Command) (hit : Bool) (seen : Seen) → IsReadied c past command hit
-    → seen ≡ seen_after past
-    → channel_joined c.stats (cycle_with_hit c.config seen.queued seen.refreshing seen.draining (Some command) hit) ≡ channel_stats past.config past.channel (past.steps ++ Some command ∷ []) past.mail
-unfolding channel_cycle_with
-counted-is c past command hit seen h e =
-    let o = Some command in
-    let there = seen_after past in
-    ap (λ (x : Seen). channel_joined c.stats (cycle_with_hit c.config x.queued x.refreshing x.draining o hit)) e
-    ∙ ap₂ (λ x b. channel_joined c.stats (cycle_with_hit x there.queued there.refreshing there.draining o b)) h.made_for.config_is (sym h.hit_is)
-    ∙ ap₂ channel_joined h.stats_are (sym (cycle-with past.config past.channel past.steps past.mail o))
-    ∙ sym (channel_stats-push past.config past.channel past.steps o past.mail (late-none past.config past.channel past.steps past.mail command h.chosen))
+none_more : (a : Option ℕ) → sum_of_counts a None ≡ a
+none_more None = refl
+none_more (Some a) = refl
 
--- what is counted of a cycle fits, since a cycle and the greatest length of the queue do
-pub counted-fits : (c : Channel) (past : Past) (command : Command) (hit : Bool) (seen : Seen) → IsReadied c past command hit
-    → seen ≡ seen_after past → c.cycle < 2 ^ 62
-    → ChannelFits (channel_joined c.stats (cycle_with_hit c.config seen.queued seen.refreshing seen.draining (Some command) hit))
+greatest : (a : ℕ) → max a 0 ≡ a
+greatest a = omega arith
+
+-- a cycle without a command and a command are the cycle with that command
+cycle_and_command : (s : Config) (queued : ℕ) (has_due draining hit : Bool) (command : Command)
+    → channel_joined (cycle_with_hit s queued has_due draining None false) (one_command (kind_of command) hit) ≡ cycle_with_hit s queued has_due draining (Some command) hit
+cycle_and_command s queued has_due draining hit command = simp (zero-add, add-zero, none_more, greatest)
+
+-- what is counted of a cycle and of its command is what the statistics say
+pub counted-is : (c : Channel) (past : Past) (command : Command) (hit : Bool) → IsReadied c past command hit
+    → channel_joined c.stats (one_command (kind_of command) hit) ≡ channel_stats past.config past.channel (past.steps ++ Some command ∷ []) past.mail
+unfolding channel_cycle_with
+counted-is c past command hit h =
+    let s = past.config in
+    let history = commands_after past in
+    let before = channel_stats s past.channel past.steps past.mail in
+    let queued = length (queued_requests history past.mail (length past.steps + 1)) in
+    let has_due = is_some (lowest_due s history (length past.steps)) in
+    let draining = drains s past.channel past.steps past.mail (length past.steps) in
+    ap (λ x. channel_joined x (one_command (kind_of command) hit))
+    (h.stats_are
+    ∙ channel_stats-push s past.channel past.steps None past.mail refl
+    ∙ ap (channel_joined before) (cycle-with s past.channel past.steps past.mail None))
+    ∙ channel_joined-assoc before (cycle_with_hit s queued has_due draining None false) (one_command (kind_of command) hit)
+    ∙ ap (channel_joined before)
+    (cycle_and_command s queued has_due draining hit command
+    ∙ ap (cycle_with_hit s queued has_due draining (Some command)) (sym h.hit_is)
+    ∙ sym (cycle-with s past.channel past.steps past.mail (Some command)))
+    ∙ sym (channel_stats-push s past.channel past.steps (Some command) past.mail (late-none s past.channel past.steps past.mail command h.chosen))
+
+-- what is counted of them fits, since a cycle and the greatest length of the queue do
+pub counted-fits : (c : Channel) (past : Past) (command : Command) (hit : Bool) → IsReadied c past command hit
+    → c.cycle < 2 ^ 62 → ChannelFits (channel_joined c.stats (one_command (kind_of command) hit))
 unfolding channel_stats
-counted-fits c past command hit seen h e early =
-    let is = counted-is c past command hit seen h e in
-    let longest : queued_max past.channel (past.steps ++ Some command ∷ []) past.mail ≡ max c.stats.queued_max seen.queued = ap (λ (x : ChannelStats). x.queued_max) (sym is) in
-    let queued : seen.queued ≡ length (queued_requests (commands_after past) past.mail (length past.steps + 1)) = ap (λ (x : Seen). x.queued) e in
-    let most = h.within_before in
+counted-fits c past command hit h early =
+    let is = counted-is c past command hit h in
+    let longest : queued_max past.channel (past.steps ++ Some command ∷ []) past.mail ≡ max c.stats.queued_max 0 = ap (λ (x : ChannelStats). x.queued_max) (sym is) in
     let before : c.stats.queued_max ≤ queue_room past.config = h.made_for.longest in
     let room : queue_room past.config ≤ 8192 = past.config.credits_fit in
     let at : c.cycle ≡ length past.steps = h.cycle_is in
     subst ChannelFits (sym is)
     (channel_stats-fit past.config past.channel (past.steps ++ Some command ∷ []) past.mail (omega (arith, length-push_suc past.steps (Some command))) (omega arith))
 
--- a channel counts cycles of draining where it ever drains
-pub readied-drains : (c : Channel) (past : Past) (command : Command) (hit : Bool) → IsReadied c past command hit → CountsDrains c
-readied-drains c past command hit h = drains-counted c past.config past.channel past.steps past.mail h.made_for.config_is h.stats_are
-
 -- what it stands for when the command is noted and counted
-pub issued-stands : (c : Channel) (past : Past) (command : Command) (hit : Bool) (seen : Seen) (refresh : RefreshCounts)
-    → IsReadied c past command hit → seen ≡ seen_after past
+pub issued-stands : (c : Channel) (past : Past) (command : Command) (hit : Bool) (refresh : RefreshCounts)
+    → IsReadied c past command hit
     → RefreshesStandFor refresh past.config (commands_after past ++ as_issued past.channel c.cycle command ∷ [])
-    → StandsFor (record c { cycle = c.cycle + 1; refresh = refresh; next_command = Unknown; stats = channel_joined c.stats (cycle_with_hit c.config seen.queued seen.refreshing seen.draining (Some command) hit) })
+    → StandsFor (record c { cycle = c.cycle + 1; refresh = refresh; next_command = Unknown; stats = channel_joined c.stats (one_command (kind_of command) hit) })
     past.config past.channel (past.steps ++ Some command ∷ []) past.mail
-issued-stands c past command hit seen refresh h e r =
+issued-stands c past command hit refresh h r =
     let o = Some command in
     let now = length past.steps in
     let history = commands_after past in
@@ -172,8 +170,6 @@ issued-stands c past command hit seen refresh h e r =
     let issued : issued_commands past.channel (past.steps ++ o ∷ []) ≡ history ++ row ∷ [] = issued_commands-push past.channel past.steps o in
     let len : length (past.steps ++ o ∷ []) ≡ suc now = length-push_suc past.steps o in
     let one : now + 1 ≡ suc now = add-one now in
-    let queued : seen.queued ≡ length (queued_requests history past.mail (now + 1)) = ap (λ (x : Seen). x.queued) e in
-    let most = h.within_before in
     let before : c.stats.queued_max ≤ queue_room past.config = h.made_for.longest in
     record {
       made_for = record {
@@ -198,7 +194,7 @@ issued-stands c past command hit seen refresh h e r =
         queue_is = h.queue_is ∙ ap₂ (λ x u. queued_requests x past.mail u) (sym issued) (one ∙ sym len);
         drained_is = h.drained_is ∙ sym (drains_before-row past.config past.channel past.steps o past.mail);
         activated_are = h.activated_are ∙ ap (λ x. activated_of x (waiting_requests c.queue.log)) (sym issued);
-        stats_are = counted-is c past command hit seen h e;
+        stats_are = counted-is c past command hit h;
       };
       candidates_stand = subst (CandidatesStand c.bank_candidates c.queue.log) (sym issued) h.candidates_stand;
       banks_stand = subst (BanksStandFor c.banks past.config) (sym issued) h.banks_stand;
@@ -259,13 +255,16 @@ chosen-is : (s : Config) (channel : ℕ) (steps : List (Option Command)) (mail :
     (lowest_due s (issued_commands channel steps) (length steps))
 chosen-is s channel steps mail command e = e ∙ choice-next s channel steps mail _ _ refl refl
 
--- no refresh is due in a cycle in which a channel issues what a request needs
-pub none-due : (c : Channel) (past : Past) (r : Request) → IsInCycle c past → Some (needed (commands_after past) r) ≡ choice_after past
-    → false ≡ is_some (lowest_owed c.refresh c.cycle)
-none-due c past r h chosen =
+-- no refresh is due in a cycle in which a channel issues what a request needs, after others in which it issues nothing
+pub none_due-then : (c : Channel) (past : Past) (cycle : ℕ) → IsInCycle c past → ServesAfter past cycle → is_some (lowest_owed c.refresh cycle) ≡ false
+none_due-then c past cycle h serves =
     let history = commands_after past in
-    sym (request-alone past.config history (length past.steps) _ _ r (chosen-is past.config past.channel past.steps past.mail (needed history r) chosen))
-    ∙ ap is_some (sym (sym (lowest_due_from_owed c.refresh past.config history c.cycle h.refreshes_stand) ∙ ap (lowest_due past.config history) h.cycle_is))
+    let n = cycle - length past.steps in
+    let from = serves.from_now in
+    let then : length past.steps + n ≡ cycle = omega arith in
+    ap is_some (sym (lowest_due_from_owed c.refresh past.config history cycle h.refreshes_stand) ∙ ap (lowest_due past.config history) (sym then))
+    ∙ request-alone past.config history (length past.steps + n) _ _ serves.request
+    (serves.is_chosen ∙ idle-choice past.config past.channel past.steps past.mail (there-before c past h) n)
 
 -- a REF that a channel issues is due
 pub command-owed : (c : Channel) (past : Past) (command : Command) (hit : Bool) → IsReadied c past command hit

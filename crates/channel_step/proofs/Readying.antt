@@ -18,6 +18,7 @@ use Rattle.sim_base.specs.declared.message.Request.{Request}
 use Rattle.sim_base.specs.declared.place.BankId.{BankId}
 use Rattle.bank_ready.specs.Stands.{rank_count, followed_by, StandsFor as BanksStandFor}
 use Rattle.bank_ready.specs.declared.banks.Banks.{Banks}
+use Rattle.queue.specs.declared.request_log.Arrived.{Arrived}
 use Rattle.queue.specs.Log.{absent, waiting_requests, served_at, activated_at, waits_at}
 use Rattle.queue.proofs.Activated.{all_activated, waiting_activated}
 use Rattle.queue.proofs.Places.{all_served}
@@ -33,8 +34,8 @@ use Rattle.channel_step.specs.Past.{has_act, Past, commands_after, choice_after}
 use Rattle.channel_step.specs.Stands.{activated_of}
 use Rattle.channel_step.specs.Queued.{request_at, served_now, kept_rows}
 use Rattle.channel_step.specs.Runs.{with_more}
-use Rattle.channel_step.specs.Channels.{CandidatesStand, IsInCycle}
-use Rattle.channel_step.specs.Readied.{IsChosen, IsDoing, as_issued, commands_with, IsReadied}
+use Rattle.channel_step.specs.Channels.{CandidatesStand, IsNeededIn}
+use Rattle.channel_step.specs.Readied.{ActsFor, IsDoing, ServesAfter, HasCounted, as_issued, commands_with, IsReadied}
 use Rattle.channel_step.specs.declared.fr_fcfs.choice.Need.TheVariants as Needs
 use Rattle.channel_step.specs.declared.channel.Channel.{Channel}
 use Rattle.channel_step.proofs.Cycle.{joined-differ}
@@ -45,35 +46,35 @@ use Rattle.channel_step.proofs.Marks.{column_either, opens_none, marks-act, mark
 use Rattle.channel_step.proofs.Serving.{kept-none_issued, kept-served}
 
 -- the bank that the request at a place asks for is one that has candidates
-pub placed-among : (c : Channel) (past : Past) (place : ℕ) → IsInCycle c past → place < length c.queue.log
+pub placed-among : (c : Channel) (past : Past) (place : ℕ) → HasCounted c past → place < length c.queue.log
     → IsBankOf c.bank_candidates (bank_in (request_at c.queue.log place).place)
 placed-among c past place h l =
-    let placed = placed_at (IsInBanks past.config.ranks) c.queue.log place h.made_for.in_banks l in
-    record { number = omega (arith, placed.rank, placed.group, placed.bank, h.made_for.banks_are); group = placed.group; bank = placed.bank }
+    let placed = placed_at (IsInBanks past.config.ranks) c.queue.log place h.is_in.made_for.in_banks l in
+    record { number = omega (arith, placed.rank, placed.group, placed.bank, h.is_in.made_for.banks_are); group = placed.group; bank = placed.bank }
 
 -- and its rank is one of those of the channel's banks
-pub placed-rank : (c : Channel) (past : Past) (place : ℕ) → IsInCycle c past → place < length c.queue.log
+pub placed-rank : (c : Channel) (past : Past) (place : ℕ) → HasCounted c past → place < length c.queue.log
     → (request_at c.queue.log place).place.rank < rank_count c.banks
-placed-rank c past place h l = omega (arith, (placed_at (IsInBanks past.config.ranks) c.queue.log place h.made_for.in_banks l).rank, h.banks_stand.ranks)
+placed-rank c past place h l = omega (arith, (placed_at (IsInBanks past.config.ranks) c.queue.log place h.is_in.made_for.in_banks l).rank, h.is_in.banks_stand.ranks)
 
 -- the commands of a past are earlier than the cycle where the channel stands
-pub noted-later : (c : Channel) (past : Past) → IsInCycle c past → All (λ (i : IssuedCommand). i.cycle < c.cycle) (commands_after past)
-noted-later c past h = issued-before past.channel c.cycle past.steps (sym h.cycle_is)
+pub noted-later : (c : Channel) (past : Past) → HasCounted c past → All (λ (i : IssuedCommand). i.cycle < c.cycle) (commands_after past)
+noted-later c past h = issued-before past.channel c.cycle past.steps (sym h.is_in.cycle_is)
 
 -- banks that stand for a command of the cycle where the channel stands stand for it after its past
-pub noted-at : (c : Channel) (past : Past) (command : Command) (banks : Banks) → IsInCycle c past
+pub noted-at : (c : Channel) (past : Past) (command : Command) (banks : Banks) → HasCounted c past
     → BanksStandFor banks past.config (followed_by (commands_after past) past.channel c.cycle command) → BanksStandFor banks past.config (commands_with past command)
-noted-at c past command banks h = subst (λ t. BanksStandFor banks past.config (followed_by (commands_after past) past.channel t command)) h.cycle_is
+noted-at c past command banks h = subst (λ t. BanksStandFor banks past.config (followed_by (commands_after past) past.channel t command)) h.is_in.cycle_is
 
 -- the candidates of a channel know which rows are open
-pub knows-rows : (c : Channel) (past : Past) → IsInCycle c past → KnowsRows c.bank_candidates (commands_after past)
-knows-rows c past h = record { log = c.queue.log; stands = h.candidates_stand }
+pub knows-rows : (c : Channel) (past : Past) → HasCounted c past → KnowsRows c.bank_candidates (commands_after past)
+knows-rows c past h = record { log = c.queue.log; stands = h.is_in.candidates_stand }
 
-pub groups-are : (c : Channel) (past : Past) → IsInCycle c past → past.config.groups ≡ c.config.groups
-groups-are c past h = ap (λ (x : Config). x.groups) (sym h.made_for.config_is)
+pub groups-are : (c : Channel) (past : Past) → HasCounted c past → past.config.groups ≡ c.config.groups
+groups-are c past h = ap (λ (x : Config). x.groups) (sym h.is_in.made_for.config_is)
 
 -- a command that serves none and opens no row leaves the log
-none_issued-readied : (c : Channel) (past : Past) (command : Command) (bank_candidates : BankCandidates) (banks : Banks) → IsInCycle c past
+none_issued-readied : (c : Channel) (past : Past) (command : Command) (bank_candidates : BankCandidates) (banks : Banks) → HasCounted c past
     → Some command ≡ choice_after past → opens_none command ≡ true → is_column_command command ≡ false → is_hit (commands_after past) command ≡ false
     → bank_count bank_candidates ≡ bank_count c.bank_candidates
     → CandidatesStandFor bank_candidates c.queue.log (λ bank. row_after (bank_at bank) (open_row (bank_at bank) (commands_after past)) command)
@@ -83,11 +84,11 @@ none_issued-readied c past command bank_candidates banks h chosen opens none_iss
     let history = commands_after past in
     let row = as_issued past.channel (length past.steps) command in
     readied c past command false c.queue.log bank_candidates banks c.served h chosen no_hit refl (sym (served-none (waiting_requests c.queue.log) command none_issued))
-    (h.joined.activated_are ∙ sym (marks-no_act history row (waiting_requests c.queue.log) opens)) count stands noted
-    (kept-none_issued c.served history row past.mail (late-none past.config past.channel past.steps past.mail command chosen) none_issued h.keeps_served)
+    (h.is_in.joined.activated_are ∙ sym (marks-no_act history row (waiting_requests c.queue.log) opens)) count stands noted
+    (kept-none_issued c.served history row past.mail (late-none past.config past.channel past.steps past.mail command chosen) none_issued h.is_in.keeps_served)
 
 -- a PRE closes the bank of a request
-pub closed-readied : (c : Channel) (past : Past) (place : ℕ) (bank_candidates : BankCandidates) (banks : Banks) → IsInCycle c past
+pub closed-readied : (c : Channel) (past : Past) (place : ℕ) (bank_candidates : BankCandidates) (banks : Banks) → HasCounted c past
     → place < length c.queue.log
     → let r = request_at c.queue.log place in
     Some (Pre (bank_in r.place) (source_of r)) ≡ choice_after past → bank_count bank_candidates ≡ bank_count c.bank_candidates
@@ -105,7 +106,7 @@ closed-readied c past place bank_candidates banks h l chosen count stands noted 
     noted
 
 -- an ACT opens a row in it, and marks the request
-pub opened-readied : (c : Channel) (past : Past) (place : ℕ) (bank_candidates : BankCandidates) (banks : Banks) → IsInCycle c past
+pub opened-readied : (c : Channel) (past : Past) (place : ℕ) (bank_candidates : BankCandidates) (banks : Banks) → HasCounted c past
     → place < length c.queue.log → waits_at c.queue.log place ≡ true
     → let r = request_at c.queue.log place in
     Some (needed_at None r) ≡ choice_after past → bank_count bank_candidates ≡ bank_count c.bank_candidates
@@ -121,24 +122,24 @@ opened-readied c past place bank_candidates banks h l w chosen count stands note
     let row = as_issued past.channel (length past.steps) act in
     let rows : ℕ → Option ℕ = λ n. open_row (bank_at n) history in
     let among = placed-among c past place h l in
-    let differ = joined-differ _ _ _ _ past h.joined in
+    let differ = joined-differ _ _ _ _ past h.is_in.joined in
     readied c past act false (activated_at log place) bank_candidates banks c.served h chosen refl (all_activated log place)
     (waiting_activated log place ∙ sym (served-none (waiting_requests log) act refl))
-    (activated-marks (has_act history) log place l w differ h.joined.activated_are
+    (activated-marks (has_act history) log place l w differ h.is_in.joined.activated_are
     ∙ sym (marks-act history row (waiting_requests log) bank r.place.row (source_of r) refl)
     ∙ ap (activated_of (history ++ row ∷ [])) (sym (waiting_activated log place)))
     count
     (same_rows bank_candidates (activated_at log place) (with_row (number_of_bank bank) (Some r.place.row) rows) (λ n. row_after (bank_at n) (rows n) act) stands
     (λ n there. ap (λ t. cond t (Some r.place.row) (rows n)) (number_names_bank n bank among.group among.bank)))
     noted
-    (kept-none_issued c.served history row past.mail (late-none past.config past.channel past.steps past.mail act chosen) refl h.keeps_served)
+    (kept-none_issued c.served history row past.mail (late-none past.config past.channel past.steps past.mail act chosen) refl h.is_in.keeps_served)
 
 column-rows : (bank : BankId) (row : Option ℕ) (r : Request) → row ≡ row_after bank row (column_command r)
 column-rows bank row r = column_either (λ command. row ≡ row_after bank row command) r refl refl
 
 -- a column command serves the request
 pub served-readied : (c : Channel) (past : Past) (place : ℕ) (bank_candidates : BankCandidates) (banks : Banks) (served : Option (Vec ServedRequest Global))
-    → IsInCycle c past → place < length c.queue.log → waits_at c.queue.log place ≡ true
+    → HasCounted c past → place < length c.queue.log → waits_at c.queue.log place ≡ true
     → let r = request_at c.queue.log place in
     let hit = not (get_or c.queue.log place absent).activated in
     Some (column_command r) ≡ choice_after past → bank_count bank_candidates ≡ bank_count c.bank_candidates
@@ -147,7 +148,7 @@ pub served-readied : (c : Channel) (past : Past) (place : ℕ) (bank_candidates 
     → kept_rows served ≡ with_more (kept_rows c.served) (served_now c.number c.cycle r hit ∷ [])
     → IsReadied (record c { queue = record c.queue { log = served_at c.queue.log place }; banks = banks; bank_candidates = bank_candidates; served = served }) past (column_command r) hit
 served-readied c past place bank_candidates banks served h l w chosen count stands noted more =
-    let j = h.joined in
+    let j = h.is_in.joined in
     let log = c.queue.log in
     let r = request_at log place in
     let command = column_command r in
@@ -165,11 +166,11 @@ served-readied c past place bank_candidates banks served h l w chosen count stan
     noted
     (kept-served c.served served history row r hit past.mail (length past.steps + 1) refl (late-none past.config past.channel past.steps past.mail command chosen)
     (λ P each. at-waiting P log place l w (subst (Each P) (sym j.queue_is) each)) is_hit
-    (more ∙ ap₂ (λ number t. with_more (kept_rows c.served) (served_now number t r hit ∷ [])) h.made_for.number_is h.cycle_is)
-    h.keeps_served)
+    (more ∙ ap₂ (λ number t. with_more (kept_rows c.served) (served_now number t r hit ∷ [])) h.is_in.made_for.number_is h.is_in.cycle_is)
+    h.is_in.keeps_served)
 
 -- what a rank needs that is to be refreshed closes its banks, or leaves them closed
-pub rank-readied : (c : Channel) (past : Past) (rank : ℕ) (bank_candidates : BankCandidates) (banks : Banks) → IsInCycle c past
+pub rank-readied : (c : Channel) (past : Past) (rank : ℕ) (bank_candidates : BankCandidates) (banks : Banks) → HasCounted c past
     → Some (Prea rank) ≡ choice_after past → bank_count bank_candidates ≡ bank_count c.bank_candidates
     → CandidatesStandFor bank_candidates c.queue.log (closed_in rank (λ bank. open_row (bank_at bank) (commands_after past)))
     → BanksStandFor banks past.config (commands_with past (Prea rank))
@@ -179,10 +180,10 @@ rank-readied c past rank bank_candidates banks h chosen count stands noted =
     none_issued-readied c past (Prea rank) bank_candidates banks h chosen refl refl refl count
     (same_rows bank_candidates c.queue.log (closed_in rank rows) (λ n. row_after (bank_at n) (rows n) (Prea rank)) stands (λ n there. refl)) noted
 
-pub refresh-readied : (c : Channel) (past : Past) (rank : ℕ) (banks : Banks) → IsInCycle c past
+pub refresh-readied : (c : Channel) (past : Past) (rank : ℕ) (banks : Banks) → HasCounted c past
     → Some (Ref rank) ≡ choice_after past → BanksStandFor banks past.config (commands_with past (Ref rank))
     → IsReadied (record c { banks = banks }) past (Ref rank) false
-refresh-readied c past rank banks h chosen noted = none_issued-readied c past (Ref rank) c.bank_candidates banks h chosen refl refl refl refl h.candidates_stand noted
+refresh-readied c past rank banks h chosen noted = none_issued-readied c past (Ref rank) c.bank_candidates banks h chosen refl refl refl refl h.is_in.candidates_stand noted
 
 -- what the request at a place needs, where this row of its bank is open, or none is
 pub needed-with : (history : List IssuedCommand) (r : Request) (o : Option ℕ) → o ≡ open_row (bank_in r.place) history → needed history r ≡ needed_at o r
@@ -196,14 +197,28 @@ pub needed-moving : (history : List IssuedCommand) (r : Request) (row : ℕ) →
 needed-moving history r row e same = needed-with history r (Some row) e ∙ cond-true (eqb row r.place.row) (column_command r) (Pre (bank_in r.place) (source_of r)) (eq-eqb row r.place.row same)
 
 -- what was chosen is what the request at a place needs
-pub chosen-needs : (c : Channel) (place : ℕ) (p : IsChosen c (Needs.Request place)) → Some (needed (issued_commands p.past.channel p.past.steps) (request_at c.queue.log place)) ≡ choice p.past.config p.past.channel p.past.steps p.past.mail
+pub chosen-needs : (c : Channel) (place : ℕ) (p : ActsFor c (Needs.Request place)) → Some (needed (issued_commands p.past.channel p.past.steps) (request_at c.queue.log place)) ≡ choice p.past.config p.past.channel p.past.steps p.past.mail
 chosen-needs c place p = sym (request-needs p.past.config (issued_commands p.past.channel p.past.steps) c.queue.log place p.place.0) ∙ p.needed ∙ p.is_chosen
 
-pub doing : (c : Channel) (place : ℕ) (command : Command) (p : IsChosen c (Needs.Request place)) → needed (issued_commands p.past.channel p.past.steps) (request_at c.queue.log place) ≡ command → IsDoing c place command
+pub doing : (c : Channel) (place : ℕ) (command : Command) (p : ActsFor c (Needs.Request place)) → needed (issued_commands p.past.channel p.past.steps) (request_at c.queue.log place) ≡ command → IsDoing c place command
 doing c place command p e = record {
   past = p.past;
   is_in = p.is_in;
   within = p.place.0;
   waits = p.place.1;
   is_chosen = ap Some (sym e) ∙ chosen-needs c place p;
+}
+
+-- what the next command is for is what the request at a place needs
+pub need-is : (past : Past) (log : List Arrived) (end cycle place : ℕ) (i : IsNeededIn past log end cycle (Needs.Request place)) → needed (commands_after past) (request_at log place) ≡ i.command
+need-is past log end cycle place i =
+    let is : Some (needed (commands_after past) (request_at log place)) ≡ Some i.command = sym (request-needs past.config (commands_after past) log place i.place.0) ∙ i.needed in
+    cc
+
+-- where the next command is for a request, a request's is issued in its cycle
+pub serves-after : (past : Past) (log : List Arrived) (end cycle place : ℕ) → IsNeededIn past log end cycle (Needs.Request place) → ServesAfter past cycle
+serves-after past log end cycle place i = record {
+  request = request_at log place;
+  from_now = i.is_next.from_now;
+  is_chosen = ap Some (need-is past log end cycle place i) ∙ i.is_next.command_is;
 }

@@ -23,7 +23,8 @@ use Rattle.channel_step.specs.Stands.{activated_of}
 use Rattle.channel_step.specs.Counted.{cycle_with_hit}
 use Rattle.channel_step.specs.Queued.{drain_decided}
 use Rattle.queue.specs.Log.{waiting_requests}
-use Rattle.channel_step.specs.Channels.{CandidatesStand, IsForeseen, KeepsServed, StandsFor, IsInCycle, skipped, HasPast, idle_after}
+use Rattle.channel_step.specs.Channels.{CandidatesStand, IsForeseen, KeepsServed, StandsFor, IsInCycle, skipped, counted_through, HasPast, idle_after}
+use Rattle.channel_step.specs.Readied.{HasCounted}
 use Rattle.channel_step.specs.declared.channel.Channel.{Channel}
 use Rattle.channel_step.proofs.Requests.{ArrivedBefore, requests-arrived, queued_requests-until}
 use Rattle.channel_step.proofs.Spans.{drains_before-row}
@@ -393,3 +394,63 @@ waited-none c past until at h =
 pub waited-stands : (c d : Channel) (past : Past) (n : ℕ) → IsInCycle c past
     → IsInCycle d (past_of past.config past.channel (past.steps ++ replicate n None) past.mail) → 0 < n → StandsFor d past.config past.channel (past.steps ++ replicate n None) past.mail
 waited-stands c d past n h k some = skipped-stands d past.config past.channel past.steps past.mail n k h.joined.arrived (there-before c past h) some
+
+-- after the cycles up to another one, and that one, are counted, a channel is in that cycle, which its statistics count
+counted-through : (c : Channel) (past : Past) (cycle : ℕ) → IsInCycle c past → c.cycle ≤ cycle
+    → IsDueThroughout past.config past.channel past.steps (cycle + 1 - c.cycle) (is_some (lowest_owed c.refresh c.cycle))
+    → HasCounted (counted_through c cycle) (idle_after past (length past.steps) cycle)
+counted-through c past cycle h l due =
+    let is = h.cycle_is in
+    let n = cycle - length past.steps in
+    let then = idle_after past (length past.steps) cycle in
+    let before = there-before c past h in
+    let count : cycle - c.cycle ≡ n = omega arith in
+    let more : cycle + 1 - c.cycle ≡ suc n = omega arith in
+    let first : IsInCycle (skipped_to c cycle) then =
+    subst (λ k. IsInCycle (skipped_to c cycle) (past_of past.config past.channel (past.steps ++ replicate k None) past.mail)) count
+    (skip-in_cycle c past cycle h before (λ k m. due k (omega arith)) l) in
+    record {
+      is_in = subst (λ x. IsInCycle (record c { cycle = cycle; stats = x }) then) first.joined.stats_are first;
+      stats_are =
+          skipped-is c past (cycle + 1) h
+          ∙ skipped-stats c past (cycle + 1 - c.cycle) (is_some (lowest_owed c.refresh c.cycle)) h before due
+          ∙ ap (λ k. channel_stats past.config past.channel (past.steps ++ replicate k None) past.mail) more
+          ∙ ap (λ x. channel_stats past.config past.channel x past.mail) (idle-push past.steps n);
+      longest = subst (λ (x : ChannelStats). x.queued_max ≤ queue_room past.config) (sym (skipped-is c past (cycle + 1) h)) (skipped-longest c past (cycle + 1 - c.cycle) (is_some (lowest_owed c.refresh c.cycle)) h);
+    }
+
+-- a refresh is due in the cycle where a channel is, or not
+due-now : (c : Channel) (past : Past) → IsInCycle c past → IsDueThroughout past.config past.channel past.steps (c.cycle + 1 - c.cycle) (is_some (lowest_owed c.refresh c.cycle))
+due-now c past h k l =
+    let is = h.cycle_is in
+    ap is_some (lowest_due_from_owed c.refresh past.config (commands_after past) (length past.steps + k) h.refreshes_stand)
+    ∙ ap (λ t. is_some (lowest_owed c.refresh t)) (let e : length past.steps + k ≡ c.cycle = omega arith in e)
+
+-- a channel that has counted the cycle where it is
+pub counted-now : (c : Channel) (past : Past) → IsInCycle c past → c.cycle < 2 ^ 62 → HasCounted (counted_through c c.cycle) past
+counted-now c past h early =
+    let is = h.cycle_is in
+    let none : c.cycle - length past.steps ≡ 0 = omega arith in
+    subst (λ r. HasCounted (counted_through c c.cycle) (past_of past.config past.channel r past.mail)) (ap (λ n. past.steps ++ replicate n None) none ∙ append-nil past.steps)
+    (counted-through c past c.cycle h (omega arith) (due-now c past h))
+
+pub counted-now_fits : (c : Channel) (past : Past) → IsInCycle c past → c.cycle < 2 ^ 62 → ChannelFits (skipped c (c.cycle + 1))
+counted-now_fits c past h early = skip-fits c past (c.cycle + 1) h (there-before c past h) (due-now c past h) (omega arith) (omega arith)
+
+-- where no refresh is due by a cycle, none is in those before it
+due-never : (c : Channel) (past : Past) (cycle : ℕ) → IsInCycle c past → c.cycle ≤ cycle → is_some (lowest_owed c.refresh cycle) ≡ false
+    → IsDueThroughout past.config past.channel past.steps (cycle + 1 - c.cycle) (is_some (lowest_owed c.refresh c.cycle))
+due-never c past cycle h l none k m =
+    let is = h.cycle_is in
+    ap is_some (lowest_due_from_owed c.refresh past.config (commands_after past) (length past.steps + k) h.refreshes_stand)
+    ∙ none_due c.refresh (length past.steps + k) cycle (omega arith) none
+    ∙ sym (none_due c.refresh c.cycle cycle l none)
+
+-- a channel that has counted the cycles up to one, and that one, where no refresh is due by it
+pub counted-then : (c : Channel) (past : Past) (cycle : ℕ) → IsInCycle c past → c.cycle ≤ cycle → cycle < 2 ^ 62 → is_some (lowest_owed c.refresh cycle) ≡ false
+    → HasCounted (counted_through c cycle) (idle_after past (length past.steps) cycle)
+counted-then c past cycle h l early none = counted-through c past cycle h l (due-never c past cycle h l none)
+
+pub counted-then_fits : (c : Channel) (past : Past) (cycle : ℕ) → IsInCycle c past → c.cycle ≤ cycle → cycle < 2 ^ 62 → is_some (lowest_owed c.refresh cycle) ≡ false
+    → ChannelFits (skipped c (cycle + 1))
+counted-then_fits c past cycle h l early none = skip-fits c past (cycle + 1) h (there-before c past h) (due-never c past cycle h l none) (omega arith) (omega arith)

@@ -23,16 +23,17 @@
 --     StaysInCycle old new      a channel is in each cycle that it was in
 --     IsNextBefore p log end next      the next command before a cycle, and when it is issued, if there is one
 --     CountsDrains c      cycles of draining are counted where the channel ever drains
---     seen_with c refreshing, seen_of c now      what is seen of a channel in a cycle
---     counted c seen command hit      the statistics of a channel after a command
---     after_cycle c seen command hit      a channel once its cycle with a command is counted
+--     counted c command hit      the statistics of a channel with one command more
+--     after_cycle c command hit      a channel once its command is counted, and its cycle over
 --     idle_cycle c now      the statistics of a cycle in which a channel issues nothing
 --     skipped c until      the statistics of a channel after cycles in which it issues nothing
+--     counted_through c cycle      a channel in a cycle that is counted, as are those before it
 use Rattle.std.specs.Prelude.{◌≡◌, ℕ, ◌+◌, ◌-◌, ◌*◌, ◌<◌, ◌≤◌, Bool, false, List, take, length, is_some, nat_lt, Option, Some, None, IfSome, All, Vec}
 use Rattle.std.specs.List.{AllByRecursion as Each}
 use Rattle.std.specs.declared.alloc.Global.{Global}
 use Rattle.sim_base.specs.declared.config.Config.{Config}
 use Rattle.sim_base.specs.History.{issued_commands}
+use Rattle.sim_base.specs.Rules.{kind_of}
 use Rattle.sim_base.specs.Scheduling.{source_of, queue_room}
 use Rattle.sim_base.specs.declared.command.Command.{Command}
 use Rattle.sim_base.specs.declared.command.IssuedCommand.{IssuedCommand}
@@ -47,7 +48,7 @@ use Rattle.queue.specs.Stands.{bank_count, StandsFor as CandidatesStandFor}
 use Rattle.queue.specs.declared.request_log.Arrived.{Arrived}
 use Rattle.queue.specs.Log.{waiting_requests, all_requests}
 use Rattle.queue.specs.View.{QueueView, is_draining}
-use Rattle.statistics.specs.Channels.{channel_joined, channel_times}
+use Rattle.statistics.specs.Channels.{channel_joined, channel_times, one_command}
 use Rattle.statistics.specs.declared.channels.ChannelStats.{ChannelStats}
 use Rattle.channel_step.specs.Counted.{cycle_with_hit}
 use Rattle.channel_step.specs.FrFcfs.Choices.{StandFor, choice_in, command_of, IsFor, HasPlace}
@@ -66,7 +67,6 @@ use Rattle.channel_step.specs.Stands.{Recalls, HasArrivals}
 use Rattle.channel_step.specs.declared.next_command.NextCommand.{NextCommand}
 use Rattle.channel_step.specs.declared.next_command.NextCommand.TheVariants.{Unknown, Known}
 use Rattle.channel_step.specs.declared.channel.Channel.{Channel}
-use Rattle.channel_step.specs.declared.counting.Seen.{Seen}
 
 -- the candidates are those of the requests of a log, where the open rows are those that these commands left open
 abbrev pub CandidatesStand : BankCandidates → List Arrived → List IssuedCommand → Type 0
@@ -268,33 +268,26 @@ IsNextBefore p log end None = IsIdle p.config p.channel p.steps p.mail (end - le
 abbrev pub CountsDrains : Channel → Type 0
 CountsDrains c = is_some c.stats.draining ≡ nat_lt 0 c.config.write_high
 
--- what is seen of a channel before it issues a command, where it is known whether a refresh is due
-abbrev pub seen_with : Channel → Bool → Seen
-seen_with c refreshing =
-    record { queued = length (waiting_requests c.queue.log); refreshing = refreshing; draining = is_draining c.queue }
+-- the statistics of a channel with one command more, which is a row hit or not, and whose cycle is counted already
+abbrev pub counted : Channel → Command → Bool → ChannelStats
+counted c command hit = channel_joined c.stats (one_command (kind_of command) hit)
 
--- what is seen of a channel in a cycle, before it issues a command
-abbrev pub seen_of : Channel → ℕ → Seen
-seen_of c now = seen_with c (is_some (lowest_owed c.refresh now))
-
--- the statistics of a channel after one more cycle, in which this was seen and it issues this command, which is a row
--- hit or not
-abbrev pub counted : Channel → Seen → Command → Bool → ChannelStats
-counted c seen command hit =
-    channel_joined c.stats (cycle_with_hit c.config seen.queued seen.refreshing seen.draining (Some command) hit)
-
--- a channel once its cycle is counted, in which this was seen and it issued this command: the cycle is over, and what
--- comes next is not known
-abbrev pub after_cycle : Channel → Seen → Command → Bool → Channel
-after_cycle c seen command hit =
-    record c { cycle = c.cycle + 1; next_command = Unknown; stats = counted c seen command hit }
+-- a channel once its command is counted, whose cycle was: the cycle is over, and what comes next is not known
+abbrev pub after_cycle : Channel → Command → Bool → Channel
+after_cycle c command hit = record c { cycle = c.cycle + 1; next_command = Unknown; stats = counted c command hit }
 
 -- the statistics of a cycle in which a channel issues nothing
 abbrev pub idle_cycle : Channel → ℕ → ChannelStats
 idle_cycle c now =
-    cycle_with_hit c.config (seen_of c now).queued (seen_of c now).refreshing (seen_of c now).draining None false
+    cycle_with_hit c.config (length (waiting_requests c.queue.log)) (is_some (lowest_owed c.refresh now))
+    (is_draining c.queue) None false
 
 -- the statistics of a channel after the cycles up to `until`, each of which is like the next one, and in which it
 -- issues nothing
 abbrev pub skipped : Channel → ℕ → ChannelStats
 skipped c until = channel_joined c.stats (channel_times (until - c.cycle) (idle_cycle c c.cycle))
+
+-- a channel in a cycle that is counted, as are those before it: each is like the next one, and in those before it
+-- nothing is issued
+abbrev pub counted_through : Channel → ℕ → Channel
+counted_through c cycle = record c { cycle = cycle; stats = skipped c (cycle + 1) }

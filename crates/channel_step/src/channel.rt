@@ -22,14 +22,14 @@ ghost use Rattle.channel_step.specs.Past.{Past, commands_after, waiting_after, s
 ghost use Rattle.channel_step.specs.Channels.{KeepsServed, StandsFor, HasPast, ForPasts, StandForTheSame, PartsStand, StaysNext};
 ghost use Rattle.channel_step.specs.Channels.{IsNextCommand, NextCommandIsFor, IsFound, NoneIsIssued, HasRank, HasBank, issues_in};
 ghost use Rattle.channel_step.specs.Channels.{IsInCycle, ForCycles, IsInSomeCycle, StaysInCycle, IsNextBefore, idle_after};
-ghost use Rattle.channel_step.specs.Channels.{CountsDrains, seen_with, seen_of, counted, after_cycle, skipped};
-ghost use Rattle.channel_step.specs.Readied.{IsChosen, IsDoing, IsReadied, IsReadiedInSomePast, HasReadied, seen_after};
+ghost use Rattle.channel_step.specs.Channels.{CountsDrains, counted, after_cycle, skipped, counted_through};
+ghost use Rattle.channel_step.specs.Readied.{IsChosen, ActsFor, IsDoing, HasCounted, ForCounted, IsReadied, IsReadiedInSomePast, HasReadied, ServesIn, ServesAfter};
 ghost use Rattle.channel_step.specs.Readied.{request_of, opening_command, closing_command, column_command_at, command_needed, rank_command};
 ghost use Rattle.channel_step.specs.Fit.{IsFitAfter};
 ghost use Rattle.channel_step.specs.Runs.{CanStep, CanRun, ForSpan, IssuesIfNext, HasAdvanced, IsDoneAfter, StandsAt, first_arrival_or, IsListed};
 
 use crate::arriving::admit;
-use crate::counting::{Seen, draining_of};
+use crate::counting::draining_of;
 use crate::fr_fcfs::accesses::accesses_that_go;
 use crate::fr_fcfs::arrivals::{EarlierQueue, stays};
 use crate::fr_fcfs::choice::{ChannelParts, Need, next};
@@ -251,32 +251,35 @@ impl Channel {
         }
     }
 
-    /// What is seen of the channel before it issues a command, where it is known whether a refresh is due.
-    fn seen(&self, refreshing: bool) -> Seen
-        ensures { result ≡ seen_with self.now refreshing }
-    {
-        Seen {
-            queued: self.queue.len(),
-            refreshing,
-            draining: self.queue.draining(),
-        }
-    }
-
-    /// Counts a cycle in which a command is issued, which is a row hit or not. The cycle is then over, and what comes
-    /// next is not known.
+    /// Counts the command of a cycle that is counted already, which is a row hit or not. The cycle is then over, and what
+    /// comes next is not known.
     #[inline(always)]
-    fn count(&mut self, seen: Seen, command: Command, hit: bool)
+    fn count(&mut self, command: Command, hit: bool)
         requires cycle { self.old.cycle < 2 ^ 62 }
-        requires drains { CountsDrains self.old }
-        requires fits { ChannelFits (counted self.old seen command hit) }
-        ensures { self.new ≡ after_cycle self.old seen command hit }
+        requires fits { ChannelFits (counted self.old command hit) }
+        ensures { self.new ≡ after_cycle self.old command hit }
     {
         self.next_command = NextCommand::Unknown;
         let stats = &mut self.stats;
-        stats.add_cycles(1, seen.queued, seen.refreshing, seen.draining);
         stats.add_command(command.kind(), hit);
         let cycle = &mut self.cycle;
         *cycle += 1;
+    }
+
+    /// Counts the cycles before `until`, in each of which the same is seen as in the next one, and nothing is issued.
+    #[inline(always)]
+    fn count_cycles(&mut self, refreshing: bool, until: Cycle)
+        requires until { self.old.cycle < until }
+        requires refreshing { refreshing ≡ is_some (lowest_owed self.old.refresh self.old.cycle) }
+        requires drains { CountsDrains self.old }
+        requires fits { ChannelFits (skipped self.old until) }
+        ensures { self.new ≡ record self.old { stats = skipped self.old until } }
+    {
+        let cycles = until - self.cycle;
+        let queued = self.queue.len();
+        let draining = self.queue.draining();
+        let stats = &mut self.stats;
+        stats.add_cycles(cycles, queued, refreshing, draining);
     }
 
     /// Counts the cycles before `until`, in each of which the same is seen as in the next one, and nothing is issued.
@@ -288,12 +291,24 @@ impl Channel {
         requires fits { ChannelFits (skipped self.old until) }
         ensures { self.new ≡ record self.old { cycle = until; stats = skipped self.old until } }
     {
-        let seen = self.seen(refreshing);
-        let cycles = until - self.cycle;
-        let stats = &mut self.stats;
-        stats.add_cycles(cycles, seen.queued, seen.refreshing, seen.draining);
+        self.count_cycles(refreshing, until);
         let cycle = &mut self.cycle;
         *cycle = until;
+    }
+
+    /// Counts the cycles up to a cycle and that one too, in each of which the same is seen as in the next one. Those
+    /// before it are then over.
+    #[inline(always)]
+    fn count_through(&mut self, refreshing: bool, cycle: Cycle)
+        requires order { self.old.cycle ≤ cycle }
+        requires early { cycle < 2 ^ 62 }
+        requires refreshing { refreshing ≡ is_some (lowest_owed self.old.refresh self.old.cycle) }
+        requires drains { CountsDrains self.old }
+        requires fits { ChannelFits (skipped self.old (cycle + 1)) }
+        ensures { self.new ≡ counted_through self.old cycle }
+    {
+        self.count_cycles(refreshing, cycle + 1);
+        self.cycle = cycle;
     }
 
     /// The first cycle before `until` from which on a refresh is due, as long as no REF is issued; `until`, where there
@@ -371,25 +386,40 @@ impl Channel {
         }
     }
 
-    /// Takes note of a command for which the channel is readied, and counts the cycle. It is added to the commands,
-    /// where they are kept.
+    /// Counts the cycles from this one up to `cycle`, before 2^62, and that one too, in which a request is served.
+    /// Nothing is issued before it, nothing arrives except in the first, and no refresh is due in any of them. The
+    /// channel is in that cycle then.
+    #[inline(always)]
+    fn pass(&mut self, cycle: Cycle)
+        requires serves { ServesIn self.old cycle }
+        requires early { cycle < 2 ^ 62 }
+        ensures same_queue { self.new.queue ≡ self.old.queue }
+        ensures counted { ForCycles self.old (λ past.
+            ServesAfter past cycle
+            → HasCounted self.new (idle_after past (length past.steps) cycle)) }
+    {
+        // no refresh is due where a request is served
+        self.count_through(false, cycle);
+    }
+
+    /// Takes note of a command for which the channel is readied, and counts it. It is added to the commands, where they
+    /// are kept.
     #[inline(always)]
     fn issue(
         &mut self,
         command: Command,
         hit: bool,
-        seen: Seen,
         commands: &mut Option<CommandList>,
     ) -> Result<(), AllocError>
-        requires ready { IsReadiedInSomePast self.old command hit seen }
+        requires ready { IsReadiedInSomePast self.old command hit }
         requires early { self.old.cycle < 2 ^ 62 }
         ensures stands { (past : Past) → IsReadied self.old past command hit
-            → seen ≡ seen_after past → HasPast self.new (with_step past (Some command)) }
+            → HasPast self.new (with_step past (Some command)) }
         ensures commands { IfOk result (λ u. IsListed self.old command commands.old commands.new) }
     {
         let now = self.cycle;
         note_if_ref(&mut self.refresh, command, now);
-        self.count(seen, command, hit);
+        self.count(command, hit);
         keep(self.number, now, command, commands)
     }
 
@@ -397,9 +427,9 @@ impl Channel {
     /// else its REF.
     #[inline(always)]
     fn ready_rank(&mut self, rank: u32) -> Command
-        requires chosen { IsChosen self.old (Needs.Refresh rank) }
+        requires acts { ActsFor self.old (Needs.Refresh rank) }
         requires early { self.old.cycle < 2 ^ 62 }
-        ensures command { ForCycles self.old (λ past. result ≡ rank_command past rank) }
+        ensures command { ForCounted self.old (λ past. result ≡ rank_command past rank) }
         ensures readied { HasReadied self.old self.new result false }
     {
         let command = refresh_command(&self.bank_candidates, rank, self.config.groups);
@@ -410,7 +440,7 @@ impl Channel {
         command
     }
 
-    /// Issues what a rank needs that is to be refreshed.
+    /// Counts the cycle, and issues what a rank needs that is to be refreshed.
     #[inline(never)]
     fn refresh_rank(
         &mut self,
@@ -423,9 +453,9 @@ impl Channel {
             → IssuesIfNext result self.new past (rank_command past rank)
             commands.old commands.new messages messages) }
     {
-        let seen = self.seen(self.refreshing());
+        self.count_through(self.refreshing(), self.cycle);
         let command = self.ready_rank(rank);
-        self.issue(command, false, seen, commands)
+        self.issue(command, false, commands)
     }
 
     /// Readies the channel for the ACT that the request at a place needs, in whose bank no row is open.
@@ -474,7 +504,7 @@ impl Channel {
         requires doing { IsDoing self.old place (column_command_at self.old place) }
         requires request { request.now ≡ request_of self.old place }
         requires early { self.old.cycle < 2 ^ 62 }
-        ensures { ForCycles self.old (λ past.
+        ensures { ForCounted self.old (λ past.
             Some (column_command_at self.old place) ≡ choice_after past
             → IfOk result (IsReadied self.new past (column_command_at self.old place))) }
     {
@@ -499,21 +529,19 @@ impl Channel {
     fn issue_column_command(
         &mut self,
         place: usize,
-        seen: Seen,
         commands: &mut Option<CommandList>,
         messages: &mut Vec<Message>,
     ) -> Result<(), AllocError>
         requires doing { IsDoing self.old place (column_command_at self.old place) }
-        requires seen { seen ≡ seen_of self.old self.old.cycle }
         requires early { self.old.cycle < 2 ^ 62 }
-        ensures { ForCycles self.old (λ past.
+        ensures { ForCounted self.old (λ past.
             IssuesIfNext result self.new past (column_command_at self.old place)
             commands.old commands.new messages.old.items messages.new.items) }
     {
         let now = self.cycle;
         let request = self.queue.log().log()[place].request;
         let hit = self.serve(place, &request)?;
-        self.issue(request.column_command(), hit, seen, commands)?;
+        self.issue(request.column_command(), hit, commands)?;
         let sender = AnsweringChannel {
             config: &self.config,
             latencies: &self.latencies,
@@ -523,8 +551,8 @@ impl Channel {
         send(&sender, &request, messages)
     }
 
-    /// Issues what the request at a place needs: an ACT where no row of its bank is open, a PRE where another one is,
-    /// and else its column command. On an error some of it may not be done.
+    /// Issues what the request at a place needs, in a cycle that is counted: an ACT where no row of its bank is open, a
+    /// PRE where another one is, and else its column command. On an error some of it may not be done.
     #[inline(always)]
     fn issue_for(
         &mut self,
@@ -532,46 +560,23 @@ impl Channel {
         commands: &mut Option<CommandList>,
         messages: &mut Vec<Message>,
     ) -> Result<(), AllocError>
-        requires chosen { IsChosen self.old (Needs.Request place) }
+        requires acts { ActsFor self.old (Needs.Request place) }
         requires early { self.old.cycle < 2 ^ 62 }
-        ensures { ForCycles self.old (λ past. IssuesIfNext result self.new past
+        ensures { ForCounted self.old (λ past. IssuesIfNext result self.new past
             (command_needed self.old (commands_after past) place)
             commands.old commands.new messages.old.items messages.new.items) }
     {
-        // no refresh is due where a request is served
-        let seen = self.seen(false);
         let asked = self.queue.log().log()[place].request.place;
         match self.bank_candidates.open_row(asked.bank_id()) {
             None => {
                 let command = self.open_bank(place);
-                self.issue(command, false, seen, commands)
+                self.issue(command, false, commands)
             }
             Some(row) if row != asked.row => {
                 let command = self.close_bank(place);
-                self.issue(command, false, seen, commands)
+                self.issue(command, false, commands)
             }
-            Some(_) => self.issue_column_command(place, seen, commands, messages),
-        }
-    }
-
-    /// Issues the command of this cycle for what needs it, and counts the cycle. On an error some of it may not be done.
-    #[inline(always)]
-    fn perform(
-        &mut self,
-        found: Need,
-        commands: &mut Option<CommandList>,
-        messages: &mut Vec<Message>,
-    ) -> Result<(), AllocError>
-        requires chosen { IsChosen self.old found }
-        requires early { self.old.cycle < 2 ^ 62 }
-        ensures { ForCycles self.old (λ past. (command : Command)
-            → command_of past.config (commands_after past) self.old.queue.log found ≡ Some command
-            → IssuesIfNext result self.new past command
-            commands.old commands.new messages.old.items messages.new.items) }
-    {
-        match found {
-            Need::Refresh(rank) => self.refresh_rank(rank, commands),
-            Need::Request(place) => self.issue_for(place as usize, commands, messages),
+            Some(_) => self.issue_column_command(place, commands, messages),
         }
     }
 
@@ -704,9 +709,17 @@ impl Channel {
         let arrived = self.arrive(inbox, now);
         let end = next_arrival(&inbox[arrived..], cycles.end);
         match self.look(now, end) {
-            Some((cycle, need)) => {
+            Some((cycle, Need::Request(place))) => {
+                self.pass(cycle);
+                self.issue_for(place as usize, commands, messages)?;
+                Ok(Advance {
+                    arrived,
+                    last: cycle,
+                })
+            }
+            Some((cycle, Need::Refresh(rank))) => {
                 self.wait(cycle);
-                self.perform(need, commands, messages)?;
+                self.refresh_rank(rank, commands)?;
                 Ok(Advance {
                     arrived,
                     last: cycle,

@@ -125,8 +125,9 @@ pub(crate) fn send(
     let travel = travel_to(sender, source.core);
     match request.access {
         Access::Read => {
-            messages.push(reply_to(sender, source, travel))?;
-            messages.push(credit_for(sender, Access::Read, source, travel))?;
+            messages.reserve(2)?;
+            messages.push_reserved(reply_to(sender, source, travel));
+            messages.push_reserved(credit_for(sender, Access::Read, source, travel));
         }
         Access::Write => messages.push(credit_for(sender, Access::Write, source, travel))?,
     }

@@ -2,14 +2,19 @@ use Rattle.std.proofs.Common.{◌≡◌, ◌-◌, ◌++◌, [], length, take, So
 use Rattle.std.proofs.lemmas.List.{append-nil}
 use Rattle.std.proofs.lemmas.Result.{err_from_is_err_and, IfOk-from_err}
 use Rattle.sim_base.specs.History.{issued_commands, messages_at, issued_now}
-use Rattle.channel_step.specs.Past.{past_of}
-use Rattle.channel_step.specs.Runs.{with_more}
+use Rattle.sim_base.specs.Scheduling.{needed}
+use Rattle.channel_step.specs.Past.{past_of, commands_after}
+use Rattle.channel_step.specs.Runs.{with_more, HasIssued}
+use Rattle.channel_step.specs.Queued.{request_at}
+use Rattle.channel_step.specs.Readied.{command_needed, rank_command}
+use Rattle.channel_step.specs.declared.fr_fcfs.choice.Need.TheVariants.{Request, Refresh}
 use Rattle.channel_step.proofs.Running.{with_more-none}
 use Rattle.std.specs.Prelude.{replicate, is_err}
 use Rattle.queue.specs.View.{QueueView}
 use Rattle.channel_step.specs.FrFcfs.Choices.{command_of, IsFor}
-use Rattle.channel_step.specs.Channels.{IsNextBefore}
+use Rattle.channel_step.specs.Channels.{IsNextBefore, IsNeededIn, idle_after}
 use Rattle.channel_step.proofs.Going.{goes, goes-end, waits, acts}
+use Rattle.channel_step.proofs.Readying.{need-is, serves-after}
 use Rattle.channel_step.proofs.Skipping.{waited-stands}
 use Rattle.channel_step.proofs.Stretches.{length-idle, idle-issued}
 use Rattle.channel_step.proofs.channel.Channel.advance.Goals as goal
@@ -31,7 +36,7 @@ pub wait-requires-clause-span : goal.wait-requires-clause-span
 wait-requires-clause-span c =
     let p = c.requires.can_run in
     let h = c.arrive-arrived.ensures.in_cycle p.s p.channel p.steps p.mail p.stands c.args.cycles.end p.at c.requires.span p.fit in
-    let i = ((c.in-Some.ensures {u = tt}).next (past_of p.s p.channel p.steps (p.mail ++ take c.arrive-arrived.result c.args.inbox.now)) h p.at).is_next in
+    let i = ((c.in-Some-default-Refresh.ensures {u = tt}).next (past_of p.s p.channel p.steps (p.mail ++ take c.arrive-arrived.result c.args.inbox.now)) h p.at).is_next in
     let k = c.look.ensures.in_cycle (past_of p.s p.channel p.steps (p.mail ++ take c.arrive-arrived.result c.args.inbox.now)) h in
     omega (arith, k.cycle_is, i.from_now)
 
@@ -42,39 +47,96 @@ wait-requires-clause-until c =
     let h = arrived.in_cycle p.s p.channel p.steps p.mail p.stands c.args.cycles.end p.at c.requires.span p.fit in
     let g = goes c.arrive-arrived.new.self (past_of p.s p.channel p.steps p.mail) c.args.inbox.now c.args.cycles.start c.args.cycles.end c.arrive-arrived.result c.next_arrival-end.result h p.at p.fit c.requires.span arrived.some c.next_arrival-end.ensures in
     let within = goes-end (past_of p.s p.channel p.steps p.mail) c.args.inbox.now c.args.cycles.start c.args.cycles.end c.arrive-arrived.result c.next_arrival-end.result g in
-    let i = ((c.in-Some.ensures {u = tt}).next (past_of p.s p.channel p.steps (p.mail ++ take c.arrive-arrived.result c.args.inbox.now)) h p.at).is_next in
+    let i = ((c.in-Some-default-Refresh.ensures {u = tt}).next (past_of p.s p.channel p.steps (p.mail ++ take c.arrive-arrived.result c.args.inbox.now)) h p.at).is_next in
     omega (arith, i.before_end, within.1, c.requires.until)
 
-pub perform-requires-clause-chosen : goal.perform-requires-clause-chosen
-perform-requires-clause-chosen c =
+pub refresh_rank-requires-clause-chosen : goal.refresh_rank-requires-clause-chosen
+refresh_rank-requires-clause-chosen c =
     let p = c.requires.can_run in
     let h = c.arrive-arrived.ensures.in_cycle p.s p.channel p.steps p.mail p.stands c.args.cycles.end p.at c.requires.span p.fit in
     let there = p.mail ++ take c.arrive-arrived.result c.args.inbox.now in
-    let i = (c.in-Some.ensures {u = tt}).next (past_of p.s p.channel p.steps there) h p.at in
-    let n = c.in-Some.cycle - length p.steps in
+    let i = subst (IsNeededIn (past_of p.s p.channel p.steps there) c.arrive-arrived.new.self.queue.log c.next_arrival-end.result c.in-Some-default-Refresh.cycle) c.in-Some-default-Refresh.field-0-1-is ((c.in-Some-default-Refresh.ensures {u = tt}).next (past_of p.s p.channel p.steps there) h p.at) in
+    let n = c.in-Some-default-Refresh.cycle - length p.steps in
     let same = sym (c.wait.ensures.same_queue ∙ c.look.ensures.same_queue) in
     record {
       past = past_of p.s p.channel (p.steps ++ replicate n None) there;
       command = i.command;
       is_in = c.wait.ensures.in_cycle (past_of p.s p.channel p.steps there) (c.look.ensures.in_cycle (past_of p.s p.channel p.steps there) h);
-      place = subst (λ (q : QueueView). IsFor p.s.ranks q.log c.in-Some.need) same i.place;
+      place = subst (λ (q : QueueView). IsFor p.s.ranks q.log (Refresh c.in-Some-default-Refresh.rank)) same i.place;
       needed =
-          subst (λ (q : QueueView). command_of p.s (issued_commands p.channel (p.steps ++ replicate n None)) q.log c.in-Some.need ≡ Some i.command) same
-          (subst (λ x. command_of p.s x c.arrive-arrived.new.self.queue.log c.in-Some.need ≡ Some i.command) (sym (idle-issued p.channel p.steps n)) i.needed);
+          subst (λ (q : QueueView). command_of p.s (issued_commands p.channel (p.steps ++ replicate n None)) q.log (Refresh c.in-Some-default-Refresh.rank) ≡ Some i.command) same
+          (subst (λ x. command_of p.s x c.arrive-arrived.new.self.queue.log (Refresh c.in-Some-default-Refresh.rank) ≡ Some i.command) (sym (idle-issued p.channel p.steps n)) i.needed);
       is_chosen = i.is_next.command_is;
     }
 
-pub perform-requires-clause-early : goal.perform-requires-clause-early
-perform-requires-clause-early c =
+pub pass-requires-clause-serves : goal.pass-requires-clause-serves
+pass-requires-clause-serves c =
+    let p = c.requires.can_run in
+    let h = c.arrive-arrived.ensures.in_cycle p.s p.channel p.steps p.mail p.stands c.args.cycles.end p.at c.requires.span p.fit in
+    let there = past_of p.s p.channel p.steps (p.mail ++ take c.arrive-arrived.result c.args.inbox.now) in
+    let i = subst (IsNeededIn there c.arrive-arrived.new.self.queue.log c.next_arrival-end.result c.in-Some-default-Request.cycle) c.in-Some-default-Request.field-0-1-is ((c.in-Some-default-Request.ensures {u = tt}).next there h p.at) in
+    record {
+      past = there;
+      is_in = c.look.ensures.in_cycle there h;
+      serves = serves-after there c.arrive-arrived.new.self.queue.log c.next_arrival-end.result c.in-Some-default-Request.cycle c.in-Some-default-Request.place i;
+    }
+
+pub pass-requires-clause-early : goal.pass-requires-clause-early
+pass-requires-clause-early c =
+    let p = c.requires.can_run in
+    let arrived = c.arrive-arrived.ensures in
+    let h = arrived.in_cycle p.s p.channel p.steps p.mail p.stands c.args.cycles.end p.at c.requires.span p.fit in
+    let g = goes c.arrive-arrived.new.self (past_of p.s p.channel p.steps p.mail) c.args.inbox.now c.args.cycles.start c.args.cycles.end c.arrive-arrived.result c.next_arrival-end.result h p.at p.fit c.requires.span arrived.some c.next_arrival-end.ensures in
+    let within = goes-end (past_of p.s p.channel p.steps p.mail) c.args.inbox.now c.args.cycles.start c.args.cycles.end c.arrive-arrived.result c.next_arrival-end.result g in
+    let i = ((c.in-Some-default-Request.ensures {u = tt}).next (past_of p.s p.channel p.steps (p.mail ++ take c.arrive-arrived.result c.args.inbox.now)) h p.at).is_next in
+    omega (arith, i.before_end, within.1, c.requires.until)
+
+pub issue_for-requires-clause-acts : goal.issue_for-requires-clause-acts
+issue_for-requires-clause-acts c =
+    let p = c.requires.can_run in
+    let h = c.arrive-arrived.ensures.in_cycle p.s p.channel p.steps p.mail p.stands c.args.cycles.end p.at c.requires.span p.fit in
+    let there = past_of p.s p.channel p.steps (p.mail ++ take c.arrive-arrived.result c.args.inbox.now) in
+    let log = c.arrive-arrived.new.self.queue.log in
+    let i = subst (IsNeededIn there c.arrive-arrived.new.self.queue.log c.next_arrival-end.result c.in-Some-default-Request.cycle) c.in-Some-default-Request.field-0-1-is ((c.in-Some-default-Request.ensures {u = tt}).next there h p.at) in
+    let n = c.in-Some-default-Request.cycle - length p.steps in
+    let then = idle_after there (length p.steps) c.in-Some-default-Request.cycle in
+    let serves = serves-after there log c.next_arrival-end.result c.in-Some-default-Request.cycle c.in-Some-default-Request.place i in
+    let same = sym (c.pass.ensures.same_queue ∙ c.look.ensures.same_queue) in
+    record {
+      past = then;
+      command = i.command;
+      is_in = c.pass.ensures.counted there (c.look.ensures.in_cycle there h) serves;
+      place = subst (λ (q : QueueView). IsFor p.s.ranks q.log (Request c.in-Some-default-Request.place)) same i.place;
+      needed =
+          subst (λ (q : QueueView). command_of p.s (commands_after then) q.log (Request c.in-Some-default-Request.place) ≡ Some i.command) same
+          (subst (λ x. command_of p.s x log (Request c.in-Some-default-Request.place) ≡ Some i.command) (sym (idle-issued p.channel p.steps n)) i.needed);
+      is_chosen = i.is_next.command_is;
+    }
+
+pub refresh_rank-requires-clause-early : goal.refresh_rank-requires-clause-early
+refresh_rank-requires-clause-early c =
     let p = c.requires.can_run in
     let arrived = c.arrive-arrived.ensures in
     let h = arrived.in_cycle p.s p.channel p.steps p.mail p.stands c.args.cycles.end p.at c.requires.span p.fit in
     let g = goes c.arrive-arrived.new.self (past_of p.s p.channel p.steps p.mail) c.args.inbox.now c.args.cycles.start c.args.cycles.end c.arrive-arrived.result c.next_arrival-end.result h p.at p.fit c.requires.span arrived.some c.next_arrival-end.ensures in
     let within = goes-end (past_of p.s p.channel p.steps p.mail) c.args.inbox.now c.args.cycles.start c.args.cycles.end c.arrive-arrived.result c.next_arrival-end.result g in
     let there = p.mail ++ take c.arrive-arrived.result c.args.inbox.now in
-    let i = ((c.in-Some.ensures {u = tt}).next (past_of p.s p.channel p.steps there) h p.at).is_next in
+    let i = ((c.in-Some-default-Refresh.ensures {u = tt}).next (past_of p.s p.channel p.steps there) h p.at).is_next in
     let k = c.wait.ensures.in_cycle (past_of p.s p.channel p.steps there) (c.look.ensures.in_cycle (past_of p.s p.channel p.steps there) h) in
-    omega (arith, k.cycle_is, length-idle p.steps (c.in-Some.cycle - length p.steps), i.from_now, i.before_end, within.1, c.requires.until)
+    omega (arith, k.cycle_is, length-idle p.steps (c.in-Some-default-Refresh.cycle - length p.steps), i.from_now, i.before_end, within.1, c.requires.until)
+
+pub issue_for-requires-clause-early : goal.issue_for-requires-clause-early
+issue_for-requires-clause-early c =
+    let p = c.requires.can_run in
+    let arrived = c.arrive-arrived.ensures in
+    let h = arrived.in_cycle p.s p.channel p.steps p.mail p.stands c.args.cycles.end p.at c.requires.span p.fit in
+    let g = goes c.arrive-arrived.new.self (past_of p.s p.channel p.steps p.mail) c.args.inbox.now c.args.cycles.start c.args.cycles.end c.arrive-arrived.result c.next_arrival-end.result h p.at p.fit c.requires.span arrived.some c.next_arrival-end.ensures in
+    let within = goes-end (past_of p.s p.channel p.steps p.mail) c.args.inbox.now c.args.cycles.start c.args.cycles.end c.arrive-arrived.result c.next_arrival-end.result g in
+    let there = p.mail ++ take c.arrive-arrived.result c.args.inbox.now in
+    let i = ((c.in-Some-default-Request.ensures {u = tt}).next (past_of p.s p.channel p.steps there) h p.at).is_next in
+    let j = subst (IsNeededIn (past_of p.s p.channel p.steps there) c.arrive-arrived.new.self.queue.log c.next_arrival-end.result c.in-Some-default-Request.cycle) c.in-Some-default-Request.field-0-1-is ((c.in-Some-default-Request.ensures {u = tt}).next (past_of p.s p.channel p.steps there) h p.at) in
+    let k = (c.pass.ensures.counted (past_of p.s p.channel p.steps there) (c.look.ensures.in_cycle (past_of p.s p.channel p.steps there) h) (serves-after (past_of p.s p.channel p.steps there) c.arrive-arrived.new.self.queue.log c.next_arrival-end.result c.in-Some-default-Request.cycle c.in-Some-default-Request.place j)).is_in in
+    omega (arith, k.cycle_is, length-idle p.steps (c.in-Some-default-Request.cycle - length p.steps), i.from_now, i.before_end, within.1, c.requires.until)
 
 pub wait-requires-in-None-clause-in_cycle : goal.wait-requires-in-None-clause-in_cycle
 wait-requires-in-None-clause-in_cycle c =
@@ -111,46 +173,99 @@ overflow_sub-result c =
     let within = goes-end (past_of p.s p.channel p.steps p.mail) c.args.inbox.now c.args.cycles.start c.args.cycles.end c.arrive-arrived.result c.next_arrival-end.result g in
     omega (arith, within.0)
 
-pub returns-in_ok-perform-in-Some-clause-from_now : goal.returns-in_ok-perform-in-Some-clause-from_now
-returns-in_ok-perform-in-Some-clause-from_now c =
+pub returns-in_ok-issue_for-in-Some-default-Request-clause-from_now : goal.returns-in_ok-issue_for-in-Some-default-Request-clause-from_now
+returns-in_ok-issue_for-in-Some-default-Request-clause-from_now c =
     let p = c.requires.can_run in
     let h = c.arrive-arrived.ensures.in_cycle p.s p.channel p.steps p.mail p.stands c.args.cycles.end p.at c.requires.span p.fit in
-    let i = ((c.in-Some.ensures {u = tt}).next (past_of p.s p.channel p.steps (p.mail ++ take c.arrive-arrived.result c.args.inbox.now)) h p.at).is_next in
+    let i = ((c.in-Some-default-Request.ensures {u = tt}).next (past_of p.s p.channel p.steps (p.mail ++ take c.arrive-arrived.result c.args.inbox.now)) h p.at).is_next in
     omega (arith, p.at, i.from_now)
 
-pub returns-in_ok-perform-in-Some-clause-within : goal.returns-in_ok-perform-in-Some-clause-within
-returns-in_ok-perform-in-Some-clause-within c =
+pub returns-in_ok-refresh_rank-in-Some-default-Refresh-clause-from_now : goal.returns-in_ok-refresh_rank-in-Some-default-Refresh-clause-from_now
+returns-in_ok-refresh_rank-in-Some-default-Refresh-clause-from_now c =
+    let p = c.requires.can_run in
+    let h = c.arrive-arrived.ensures.in_cycle p.s p.channel p.steps p.mail p.stands c.args.cycles.end p.at c.requires.span p.fit in
+    let i = ((c.in-Some-default-Refresh.ensures {u = tt}).next (past_of p.s p.channel p.steps (p.mail ++ take c.arrive-arrived.result c.args.inbox.now)) h p.at).is_next in
+    omega (arith, p.at, i.from_now)
+
+pub returns-in_ok-issue_for-in-Some-default-Request-clause-within : goal.returns-in_ok-issue_for-in-Some-default-Request-clause-within
+returns-in_ok-issue_for-in-Some-default-Request-clause-within c =
     let p = c.requires.can_run in
     let arrived = c.arrive-arrived.ensures in
     let h = arrived.in_cycle p.s p.channel p.steps p.mail p.stands c.args.cycles.end p.at c.requires.span p.fit in
     let g = goes c.arrive-arrived.new.self (past_of p.s p.channel p.steps p.mail) c.args.inbox.now c.args.cycles.start c.args.cycles.end c.arrive-arrived.result c.next_arrival-end.result h p.at p.fit c.requires.span arrived.some c.next_arrival-end.ensures in
     let within = goes-end (past_of p.s p.channel p.steps p.mail) c.args.inbox.now c.args.cycles.start c.args.cycles.end c.arrive-arrived.result c.next_arrival-end.result g in
-    let i = ((c.in-Some.ensures {u = tt}).next (past_of p.s p.channel p.steps (p.mail ++ take c.arrive-arrived.result c.args.inbox.now)) h p.at).is_next in
+    let i = ((c.in-Some-default-Request.ensures {u = tt}).next (past_of p.s p.channel p.steps (p.mail ++ take c.arrive-arrived.result c.args.inbox.now)) h p.at).is_next in
     omega (arith, i.before_end, within.1)
 
-pub returns-in_ok-perform-in-Some-clause-done : goal.returns-in_ok-perform-in-Some-clause-done
-returns-in_ok-perform-in-Some-clause-done c s channel steps mail stands at f =
+pub returns-in_ok-refresh_rank-in-Some-default-Refresh-clause-within : goal.returns-in_ok-refresh_rank-in-Some-default-Refresh-clause-within
+returns-in_ok-refresh_rank-in-Some-default-Refresh-clause-within c =
+    let p = c.requires.can_run in
+    let arrived = c.arrive-arrived.ensures in
+    let h = arrived.in_cycle p.s p.channel p.steps p.mail p.stands c.args.cycles.end p.at c.requires.span p.fit in
+    let g = goes c.arrive-arrived.new.self (past_of p.s p.channel p.steps p.mail) c.args.inbox.now c.args.cycles.start c.args.cycles.end c.arrive-arrived.result c.next_arrival-end.result h p.at p.fit c.requires.span arrived.some c.next_arrival-end.ensures in
+    let within = goes-end (past_of p.s p.channel p.steps p.mail) c.args.inbox.now c.args.cycles.start c.args.cycles.end c.arrive-arrived.result c.next_arrival-end.result g in
+    let i = ((c.in-Some-default-Refresh.ensures {u = tt}).next (past_of p.s p.channel p.steps (p.mail ++ take c.arrive-arrived.result c.args.inbox.now)) h p.at).is_next in
+    omega (arith, i.before_end, within.1)
+
+pub returns-in_ok-issue_for-in-Some-default-Request-clause-done : goal.returns-in_ok-issue_for-in-Some-default-Request-clause-done
+returns-in_ok-issue_for-in-Some-default-Request-clause-done c s channel steps mail stands at f =
     let arrived = c.arrive-arrived.ensures in
     let n = c.arrive-arrived.result in
-    let there = mail ++ take n c.args.inbox.now in
+    let there = past_of s channel steps (mail ++ take n c.args.inbox.now) in
+    let log = c.arrive-arrived.new.self.queue.log in
+    let cycle = c.in-Some-default-Request.cycle in
+    let place = c.in-Some-default-Request.place in
     let h = arrived.in_cycle s channel steps mail stands c.args.cycles.end at c.requires.span f in
     let g = goes c.arrive-arrived.new.self (past_of s channel steps mail) c.args.inbox.now c.args.cycles.start c.args.cycles.end n c.next_arrival-end.result h at f c.requires.span arrived.some c.next_arrival-end.ensures in
-    let i = (c.in-Some.ensures {u = tt}).next (past_of s channel steps there) h at in
-    let k = c.wait.ensures.in_cycle (past_of s channel steps there) (c.look.ensures.in_cycle (past_of s channel steps there) h) in
+    let i = subst (IsNeededIn there c.arrive-arrived.new.self.queue.log c.next_arrival-end.result c.in-Some-default-Request.cycle) c.in-Some-default-Request.field-0-1-is ((c.in-Some-default-Request.ensures {u = tt}).next there h at) in
+    let serves = serves-after there log c.next_arrival-end.result cycle place i in
+    let k = c.pass.ensures.counted there (c.look.ensures.in_cycle there h) serves in
     let from = i.is_next.from_now in
-    let idle = c.in-Some.cycle - length steps in
-    let then = steps ++ replicate idle None in
-    let len : length then ≡ c.in-Some.cycle = omega (arith, length-idle steps idle) in
-    let same = sym (c.wait.ensures.same_queue ∙ c.look.ensures.same_queue) in
-    let needed : command_of s (issued_commands channel then) c.wait.new.self.queue.log c.in-Some.need ≡ Some i.command =
-    ap₂ (λ x (q : QueueView). command_of s x q.log c.in-Some.need) (idle-issued channel steps idle) (sym same) ∙ i.needed in
-    let after = (c.in_ok-perform-in-Some.ensures {u = tt}) (past_of s channel then there) k i.command needed i.is_next.command_is in
+    let idle = cycle - length steps in
+    let then = idle_after there (length steps) cycle in
+    let len : length then.steps ≡ cycle = omega (arith, length-idle steps idle) in
+    let same = c.pass.ensures.same_queue ∙ c.look.ensures.same_queue in
+    let is : command_needed c.pass.new.self (commands_after then) place ≡ i.command =
+    ap₂ (λ x (q : QueueView). needed x (request_at q.log place)) (idle-issued channel steps idle) same ∙ need-is there log c.next_arrival-end.result cycle place i in
+    let after =
+    subst (λ z. HasIssued c.issue_for.new.self then z c.args.commands.now c.issue_for.new.commands c.args.messages.now.items c.issue_for.new.messages.items) is
+    ((c.in_ok-issue_for-in-Some-default-Request.ensures {u = tt}) then k (ap Some is ∙ i.is_next.command_is)) in
     record {
-      issued = issued_now channel c.in-Some.cycle (Some i.command);
-      sent = messages_at s channel c.in-Some.cycle (Some i.command);
-      has_run = acts c.wait.new.self c.perform.new.self (past_of s channel steps mail) c.args.inbox.now c.args.cycles.start c.args.cycles.end n c.next_arrival-end.result c.in-Some.cycle i.command g i.is_next k after.stands;
+      issued = issued_now channel cycle (Some i.command);
+      sent = messages_at s channel cycle (Some i.command);
+      has_run = acts _ c.issue_for.new.self (past_of s channel steps mail) c.args.inbox.now c.args.cycles.start c.args.cycles.end n c.next_arrival-end.result cycle i.command g i.is_next k.is_in after.stands;
       commands_are = after.commands_are ∙ ap (λ t. with_more c.args.commands.now (issued_now channel t (Some i.command))) len;
       messages_are = after.messages_are ∙ ap (λ t. c.args.messages.now.items ++ messages_at s channel t (Some i.command)) len;
+    }
+
+pub returns-in_ok-refresh_rank-in-Some-default-Refresh-clause-done : goal.returns-in_ok-refresh_rank-in-Some-default-Refresh-clause-done
+returns-in_ok-refresh_rank-in-Some-default-Refresh-clause-done c s channel steps mail stands at f =
+    let arrived = c.arrive-arrived.ensures in
+    let n = c.arrive-arrived.result in
+    let there = past_of s channel steps (mail ++ take n c.args.inbox.now) in
+    let cycle = c.in-Some-default-Refresh.cycle in
+    let rank = c.in-Some-default-Refresh.rank in
+    let h = arrived.in_cycle s channel steps mail stands c.args.cycles.end at c.requires.span f in
+    let g = goes c.arrive-arrived.new.self (past_of s channel steps mail) c.args.inbox.now c.args.cycles.start c.args.cycles.end n c.next_arrival-end.result h at f c.requires.span arrived.some c.next_arrival-end.ensures in
+    let i = subst (IsNeededIn there c.arrive-arrived.new.self.queue.log c.next_arrival-end.result c.in-Some-default-Refresh.cycle) c.in-Some-default-Refresh.field-0-1-is ((c.in-Some-default-Refresh.ensures {u = tt}).next there h at) in
+    let k = c.wait.ensures.in_cycle there (c.look.ensures.in_cycle there h) in
+    let from = i.is_next.from_now in
+    let idle = cycle - length steps in
+    let then = idle_after there (length steps) cycle in
+    let len : length then.steps ≡ cycle = omega (arith, length-idle steps idle) in
+    let needs : Some (rank_command then rank) ≡ Some i.command =
+    ap (λ x. command_of s x c.arrive-arrived.new.self.queue.log (Refresh rank)) (idle-issued channel steps idle) ∙ i.needed in
+    let is : rank_command then rank ≡ i.command = cc in
+    let messages = c.args.messages.now.items in
+    let after =
+    subst (λ z. HasIssued c.refresh_rank.new.self then z c.args.commands.now c.refresh_rank.new.commands messages messages) is
+    ((c.in_ok-refresh_rank-in-Some-default-Refresh.ensures {u = tt}) then k messages (needs ∙ i.is_next.command_is)) in
+    record {
+      issued = issued_now channel cycle (Some i.command);
+      sent = messages_at s channel cycle (Some i.command);
+      has_run = acts c.wait.new.self c.refresh_rank.new.self (past_of s channel steps mail) c.args.inbox.now c.args.cycles.start c.args.cycles.end n c.next_arrival-end.result cycle i.command g i.is_next k after.stands;
+      commands_are = after.commands_are ∙ ap (λ t. with_more c.args.commands.now (issued_now channel t (Some i.command))) len;
+      messages_are = after.messages_are ∙ ap (λ t. messages ++ messages_at s channel t (Some i.command)) len;
     }
 
 pub returns-in-None-clause-from_now : goal.returns-in-None-clause-from_now
@@ -194,7 +309,12 @@ returns-in-None-clause-done c s channel steps mail stands at f =
 pub arrive-arrived-requires : goal.arrive-arrived-requires
 arrive-arrived-requires c = record { until = c.args.cycles.end; before_end = c.requires.span; can_run = c.requires.can_run }
 
-pub returns-in_err-perform-in-Some-clause-done : goal.returns-in_err-perform-in-Some-clause-done
-returns-in_err-perform-in-Some-clause-done c s channel steps mail stands at f =
+pub returns-in_err-issue_for-in-Some-default-Request-clause-done : goal.returns-in_err-issue_for-in-Some-default-Request-clause-done
+returns-in_err-issue_for-in-Some-default-Request-clause-done c s channel steps mail stands at f =
     let p = err_from_is_err_and c.from_residual.result c.from_residual.ensures.1 in
     IfOk-from_err c.from_residual.result _ (ap is_err p.1)
+
+pub returns-in_err-refresh_rank-in-Some-default-Refresh-clause-done : goal.returns-in_err-refresh_rank-in-Some-default-Refresh-clause-done
+returns-in_err-refresh_rank-in-Some-default-Refresh-clause-done c s channel steps mail stands at f =
+    let p = err_from_is_err_and c.from_residual-in_err-refresh_rank-in-Some-default-Refresh.result c.from_residual-in_err-refresh_rank-in-Some-default-Refresh.ensures.1 in
+    IfOk-from_err c.from_residual-in_err-refresh_rank-in-Some-default-Refresh.result _ (ap is_err p.1)

@@ -37,11 +37,11 @@ returns-clause-readied c past h chosen =
     let command : Pre c.bank_id-bank.result c.source.result ≡ Pre (bank_in r.place) (source_of r) = λ i. Pre (bank i) (source i) in
     let stands =
     subst (λ (b : BankId). CandidatesStandFor c.closed.new.self x.queue.log (with_row (number_of_bank b) None rows)) bank
-    (c.closed.ensures.stands x.queue.log rows h.candidates_stand) in
+    (c.closed.ensures.stands x.queue.log rows h.is_in.candidates_stand) in
     subst (λ (issued : Command). IsReadied (record x { banks = c.note_pre.new.self; bank_candidates = c.closed.new.self }) past issued false) (sym command)
     (closed-readied x past place c.closed.new.self c.note_pre.new.self h c.requires.doing.within (ap Some (sym command) ∙ chosen) c.closed.ensures.banks stands
     (subst (λ z. BanksStandFor c.note_pre.new.self past.config (commands_with past z)) command (noted-at x past _ c.note_pre.new.self h
-    (c.note_pre.ensures.stands past.config (commands_after past) past.channel c.source.result h.banks_stand (noted-later x past h)))))
+    (c.note_pre.ensures.stands past.config (commands_after past) past.channel c.source.result h.is_in.banks_stand (noted-later x past h)))))
 
 pub note_pre-requires-clause-rank : goal.note_pre-requires-clause-rank
 note_pre-requires-clause-rank c =

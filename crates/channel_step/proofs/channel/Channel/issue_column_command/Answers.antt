@@ -8,7 +8,7 @@ use Rattle.queue.specs.Log.{absent, LogView}
 use Rattle.channel_step.specs.Latencies.{answer_latencies}
 use Rattle.channel_step.specs.Queued.{request_at}
 use Rattle.channel_step.specs.Readied.{IsReadied}
-use Rattle.channel_step.proofs.Issuing.{seen-is, has-issued}
+use Rattle.channel_step.proofs.Issuing.{has-issued}
 use Rattle.channel_step.proofs.channel.Channel.issue_column_command.Goals as goal
 
 pub issue-requires-clause-ready : goal.issue-requires-clause-ready
@@ -22,7 +22,6 @@ issue-requires-clause-ready c =
       is_readied =
           subst (λ z. IsReadied c.serve.new.self p.past z c.in_ok-hit.hit) (sym (c.column_command.ensures ∙ ap (λ (a : Arrived). column_command a.request) read))
           (c.in_ok-hit.ensures {u = tt} p.past p.is_in p.is_chosen);
-      seen_is = c.requires.seen ∙ seen-is x p.past p.is_in;
     }
 
 pub returns : goal.returns
@@ -33,7 +32,7 @@ returns c past h chosen =
     ap (λ l. get_or l c.args.place absent) (c.log-2.ensures.log ∙ ap (λ (v : LogView). v.log) c.log.ensures) in
     let is = c.column_command.ensures ∙ ap (λ (a : Arrived). column_command a.request) read in
     let ready = subst (λ z. IsReadied c.serve.new.self past z c.in_ok-hit.hit) (sym is) (c.in_ok-hit.ensures {u = tt} past h chosen) in
-    let stands = c.issue.ensures.stands past ready (c.requires.seen ∙ seen-is x past h) in
+    let stands = c.issue.ensures.stands past ready in
     let before = c.args.messages.now.items in
     on_ok_weaker c.send.result
     (λ told. has-issued c.serve.new.self c.issue.new.self past (column_command r) c.column_command.result c.in_ok-hit.hit c.args.commands.now c.issue.new.commands before c.send.new.messages.items ready is stands
@@ -41,7 +40,7 @@ returns c past h chosen =
     (told
     ∙ ap (λ (a : Arrived). before ++ messages_of c.issue.new.self.config c.issue.new.self.number x.cycle (column_command a.request)) read
     ∙ ap (λ (z : Config). before ++ messages_of z c.issue.new.self.number x.cycle (column_command r)) stands.made_for.config_is
-    ∙ ap₂ (λ number t. before ++ messages_of past.config number t (column_command r)) stands.made_for.number_is h.cycle_is))
+    ∙ ap₂ (λ number t. before ++ messages_of past.config number t (column_command r)) stands.made_for.number_is h.is_in.cycle_is))
     c.send.ensures
 
 pub bounds-log-place : goal.bounds-log-place
@@ -58,7 +57,7 @@ pub issue-requires-clause-early : goal.issue-requires-clause-early
 issue-requires-clause-early c =
     let p = c.requires.doing in
     let ready = c.in_ok-hit.ensures {u = tt} p.past p.is_in p.is_chosen in
-    omega (arith, ready.cycle_is, p.is_in.cycle_is, c.requires.early)
+    omega (arith, ready.cycle_is, p.is_in.is_in.cycle_is, c.requires.early)
 
 pub send-requires-clause-early : goal.send-requires-clause-early
 send-requires-clause-early c = c.requires.early
@@ -71,7 +70,7 @@ send-requires-clause-latencies c =
     ap (λ l. get_or l c.args.place absent) (c.log-2.ensures.log ∙ ap (λ (v : LogView). v.log) c.log.ensures) in
     let is = c.column_command.ensures ∙ ap (λ (a : Arrived). column_command a.request) read in
     let ready = subst (λ z. IsReadied c.serve.new.self p.past z c.in_ok-hit.hit) (sym is) (c.in_ok-hit.ensures {u = tt} p.past p.is_in p.is_chosen) in
-    let stands = c.issue.ensures.stands p.past ready (c.requires.seen ∙ seen-is x p.past p.is_in) in
+    let stands = c.issue.ensures.stands p.past ready in
     c.deref.ensures.value
     ∙ stands.made_for.latencies_are
     ∙ ap₂ answer_latencies (sym stands.made_for.config_is) (sym stands.made_for.number_is)

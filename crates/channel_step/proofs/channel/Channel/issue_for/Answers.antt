@@ -11,10 +11,9 @@ use Rattle.sim_base.specs.declared.place.BankId.{BankId}
 use Rattle.sim_base.specs.declared.place.Place.{Place}
 use Rattle.queue.specs.Log.{absent, LogView}
 use Rattle.channel_step.specs.Past.{commands_after}
-use Rattle.channel_step.specs.Channels.{seen_with}
 use Rattle.channel_step.specs.Queued.{request_at}
 use Rattle.channel_step.specs.Runs.{HasIssued}
-use Rattle.channel_step.proofs.Issuing.{seen-told, none-due, has-issued, silent-act, silent-pre}
+use Rattle.channel_step.proofs.Issuing.{has-issued, silent-act, silent-pre}
 use Rattle.channel_step.proofs.Readying.{needed-with, needed-closing, needed-moving, chosen-needs, doing}
 use Rattle.channel_step.proofs.channel.Channel.issue_for.Goals as goal
 
@@ -26,11 +25,11 @@ open_bank-command-requires-clause-doing c =
     let x = c.args.self.now in
     let place = c.args.place in
     let r = request_at x.queue.log place in
-    let p = c.requires.chosen in
+    let p = c.requires.acts in
     let history = issued_commands p.past.channel p.past.steps in
     let place_is : (get_or c.log-2.result.now place absent).request.place ≡ r.place = ap (λ l. (get_or l place absent).request.place) (c.log-2.ensures.log ∙ ap (λ (v : LogView). v.log) c.log.ensures) in
     let opens : c.open_row.result ≡ open_row (bank_in r.place) history =
-    c.open_row.ensures x.queue.log history p.is_in.candidates_stand ∙ ap (λ (b : BankId). open_row b history) (c.bank_id.ensures ∙ ap bank_in place_is) in
+    c.open_row.ensures x.queue.log history p.is_in.is_in.candidates_stand ∙ ap (λ (b : BankId). open_row b history) (c.bank_id.ensures ∙ ap bank_in place_is) in
     let is : needed history r ≡ needed_at None r = needed-with history r None (sym c.in-None.is ∙ opens) in
     doing x place (needed_at None r) p is
 
@@ -39,16 +38,15 @@ issue-requires-clause-ready c =
     let x = c.args.self.now in
     let place = c.args.place in
     let r = request_at x.queue.log place in
-    let p = c.requires.chosen in
+    let p = c.requires.acts in
     let history = issued_commands p.past.channel p.past.steps in
     let place_is : (get_or c.log-2.result.now place absent).request.place ≡ r.place = ap (λ l. (get_or l place absent).request.place) (c.log-2.ensures.log ∙ ap (λ (v : LogView). v.log) c.log.ensures) in
     let opens : c.open_row.result ≡ open_row (bank_in r.place) history =
-    c.open_row.ensures x.queue.log history p.is_in.candidates_stand ∙ ap (λ (b : BankId). open_row b history) (c.bank_id.ensures ∙ ap bank_in place_is) in
+    c.open_row.ensures x.queue.log history p.is_in.is_in.candidates_stand ∙ ap (λ (b : BankId). open_row b history) (c.bank_id.ensures ∙ ap bank_in place_is) in
     let is : needed history r ≡ needed_at None r = needed-with history r None (sym c.in-None.is ∙ opens) in
     record {
       past = p.past;
       is_readied = c.open_bank-command.ensures.readied p.past p.is_in (ap Some (c.open_bank-command.ensures.command ∙ sym is) ∙ chosen-needs x place p);
-      seen_is = seen-told x p.past false c.seen-seen.result p.is_in c.seen-seen.ensures (none-due x p.past r p.is_in (chosen-needs x place p));
     }
 
 pub issue-requires-clause-early : goal.issue-requires-clause-early
@@ -56,14 +54,14 @@ issue-requires-clause-early c =
     let x = c.args.self.now in
     let place = c.args.place in
     let r = request_at x.queue.log place in
-    let p = c.requires.chosen in
+    let p = c.requires.acts in
     let history = issued_commands p.past.channel p.past.steps in
     let place_is : (get_or c.log-2.result.now place absent).request.place ≡ r.place = ap (λ l. (get_or l place absent).request.place) (c.log-2.ensures.log ∙ ap (λ (v : LogView). v.log) c.log.ensures) in
     let opens : c.open_row.result ≡ open_row (bank_in r.place) history =
-    c.open_row.ensures x.queue.log history p.is_in.candidates_stand ∙ ap (λ (b : BankId). open_row b history) (c.bank_id.ensures ∙ ap bank_in place_is) in
+    c.open_row.ensures x.queue.log history p.is_in.is_in.candidates_stand ∙ ap (λ (b : BankId). open_row b history) (c.bank_id.ensures ∙ ap bank_in place_is) in
     let is : needed history r ≡ needed_at None r = needed-with history r None (sym c.in-None.is ∙ opens) in
     let ready = c.open_bank-command.ensures.readied p.past p.is_in (ap Some (c.open_bank-command.ensures.command ∙ sym is) ∙ chosen-needs x place p) in
-    omega (arith, ready.cycle_is, p.is_in.cycle_is, c.requires.early)
+    omega (arith, ready.cycle_is, p.is_in.is_in.cycle_is, c.requires.early)
 
 pub close_bank-command-requires-clause-early : goal.close_bank-command-requires-clause-early
 close_bank-command-requires-clause-early c = c.requires.early
@@ -73,11 +71,11 @@ close_bank-command-requires-clause-doing c =
     let x = c.args.self.now in
     let place = c.args.place in
     let r = request_at x.queue.log place in
-    let p = c.requires.chosen in
+    let p = c.requires.acts in
     let history = issued_commands p.past.channel p.past.steps in
     let place_is : (get_or c.log-2.result.now place absent).request.place ≡ r.place = ap (λ l. (get_or l place absent).request.place) (c.log-2.ensures.log ∙ ap (λ (v : LogView). v.log) c.log.ensures) in
     let opens : c.open_row.result ≡ open_row (bank_in r.place) history =
-    c.open_row.ensures x.queue.log history p.is_in.candidates_stand ∙ ap (λ (b : BankId). open_row b history) (c.bank_id.ensures ∙ ap bank_in place_is) in
+    c.open_row.ensures x.queue.log history p.is_in.is_in.candidates_stand ∙ ap (λ (b : BankId). open_row b history) (c.bank_id.ensures ∙ ap bank_in place_is) in
     let is : needed history r ≡ Pre (bank_in r.place) (source_of r) = needed-closing history r c.in-Some.row (sym c.in-Some.is ∙ opens) (λ e. c.if-row-asked.true (e ∙ sym (ap (λ (q : Place). q.row) place_is))) in
     doing x place (Pre (bank_in r.place) (source_of r)) p is
 
@@ -86,16 +84,15 @@ issue-requires-in-Some-clause-ready c =
     let x = c.args.self.now in
     let place = c.args.place in
     let r = request_at x.queue.log place in
-    let p = c.requires.chosen in
+    let p = c.requires.acts in
     let history = issued_commands p.past.channel p.past.steps in
     let place_is : (get_or c.log-2.result.now place absent).request.place ≡ r.place = ap (λ l. (get_or l place absent).request.place) (c.log-2.ensures.log ∙ ap (λ (v : LogView). v.log) c.log.ensures) in
     let opens : c.open_row.result ≡ open_row (bank_in r.place) history =
-    c.open_row.ensures x.queue.log history p.is_in.candidates_stand ∙ ap (λ (b : BankId). open_row b history) (c.bank_id.ensures ∙ ap bank_in place_is) in
+    c.open_row.ensures x.queue.log history p.is_in.is_in.candidates_stand ∙ ap (λ (b : BankId). open_row b history) (c.bank_id.ensures ∙ ap bank_in place_is) in
     let is : needed history r ≡ Pre (bank_in r.place) (source_of r) = needed-closing history r c.in-Some.row (sym c.in-Some.is ∙ opens) (λ e. c.if-row-asked.true (e ∙ sym (ap (λ (q : Place). q.row) place_is))) in
     record {
       past = p.past;
       is_readied = c.close_bank-command.ensures.readied p.past p.is_in (ap Some (c.close_bank-command.ensures.command ∙ sym is) ∙ chosen-needs x place p);
-      seen_is = seen-told x p.past false c.seen-seen.result p.is_in c.seen-seen.ensures (none-due x p.past r p.is_in (chosen-needs x place p));
     }
 
 pub issue-requires-in-Some-clause-early : goal.issue-requires-in-Some-clause-early
@@ -103,25 +100,25 @@ issue-requires-in-Some-clause-early c =
     let x = c.args.self.now in
     let place = c.args.place in
     let r = request_at x.queue.log place in
-    let p = c.requires.chosen in
+    let p = c.requires.acts in
     let history = issued_commands p.past.channel p.past.steps in
     let place_is : (get_or c.log-2.result.now place absent).request.place ≡ r.place = ap (λ l. (get_or l place absent).request.place) (c.log-2.ensures.log ∙ ap (λ (v : LogView). v.log) c.log.ensures) in
     let opens : c.open_row.result ≡ open_row (bank_in r.place) history =
-    c.open_row.ensures x.queue.log history p.is_in.candidates_stand ∙ ap (λ (b : BankId). open_row b history) (c.bank_id.ensures ∙ ap bank_in place_is) in
+    c.open_row.ensures x.queue.log history p.is_in.is_in.candidates_stand ∙ ap (λ (b : BankId). open_row b history) (c.bank_id.ensures ∙ ap bank_in place_is) in
     let is : needed history r ≡ Pre (bank_in r.place) (source_of r) = needed-closing history r c.in-Some.row (sym c.in-Some.is ∙ opens) (λ e. c.if-row-asked.true (e ∙ sym (ap (λ (q : Place). q.row) place_is))) in
     let ready = c.close_bank-command.ensures.readied p.past p.is_in (ap Some (c.close_bank-command.ensures.command ∙ sym is) ∙ chosen-needs x place p) in
-    omega (arith, ready.cycle_is, p.is_in.cycle_is, c.requires.early)
+    omega (arith, ready.cycle_is, p.is_in.is_in.cycle_is, c.requires.early)
 
 pub issue_column_command-requires-clause-doing : goal.issue_column_command-requires-clause-doing
 issue_column_command-requires-clause-doing c =
     let x = c.args.self.now in
     let place = c.args.place in
     let r = request_at x.queue.log place in
-    let p = c.requires.chosen in
+    let p = c.requires.acts in
     let history = issued_commands p.past.channel p.past.steps in
     let place_is : (get_or c.log-2.result.now place absent).request.place ≡ r.place = ap (λ l. (get_or l place absent).request.place) (c.log-2.ensures.log ∙ ap (λ (v : LogView). v.log) c.log.ensures) in
     let opens : c.open_row.result ≡ open_row (bank_in r.place) history =
-    c.open_row.ensures x.queue.log history p.is_in.candidates_stand ∙ ap (λ (b : BankId). open_row b history) (c.bank_id.ensures ∙ ap bank_in place_is) in
+    c.open_row.ensures x.queue.log history p.is_in.is_in.candidates_stand ∙ ap (λ (b : BankId). open_row b history) (c.bank_id.ensures ∙ ap bank_in place_is) in
     let is : needed history r ≡ column_command r = needed-moving history r c.in-Some.row (sym c.in-Some.is ∙ opens) (c.if-row-asked.false ∙ ap (λ (q : Place). q.row) place_is) in
     doing x place (column_command r) p is
 
@@ -133,14 +130,13 @@ returns-in-None c past h chosen =
     let history = commands_after past in
     let place_is : (get_or c.log-2.result.now place absent).request.place ≡ r.place = ap (λ l. (get_or l place absent).request.place) (c.log-2.ensures.log ∙ ap (λ (v : LogView). v.log) c.log.ensures) in
     let opens : c.open_row.result ≡ open_row (bank_in r.place) history =
-    c.open_row.ensures x.queue.log history h.candidates_stand ∙ ap (λ (b : BankId). open_row b history) (c.bank_id.ensures ∙ ap bank_in place_is) in
+    c.open_row.ensures x.queue.log history h.is_in.candidates_stand ∙ ap (λ (b : BankId). open_row b history) (c.bank_id.ensures ∙ ap bank_in place_is) in
     let is : needed history r ≡ needed_at None r = needed-with history r None (sym c.in-None.is ∙ opens) in
     let ready = c.open_bank-command.ensures.readied past h (ap Some (c.open_bank-command.ensures.command ∙ sym is) ∙ chosen) in
-    let seen = seen-told x past false c.seen-seen.result h c.seen-seen.ensures (none-due x past r h chosen) in
     let before = c.args.messages.now.items in
     on_ok_weaker c.issue.result
     (λ told. has-issued c.open_bank-command.new.self c.issue.new.self past (needed history r) c.open_bank-command.result false c.args.commands.now c.issue.new.commands before before ready
-    (c.open_bank-command.ensures.command ∙ sym is) (c.issue.ensures.stands past ready seen) told
+    (c.open_bank-command.ensures.command ∙ sym is) (c.issue.ensures.stands past ready) told
     (silent-act past.config past.channel (length past.steps) (bank_in r.place) r.place.row (source_of r) before ∙ ap (λ z. before ++ messages_of past.config past.channel (length past.steps) z) (sym is)))
     c.issue.ensures.commands
 
@@ -152,14 +148,13 @@ returns-in-Some c past h chosen =
     let history = commands_after past in
     let place_is : (get_or c.log-2.result.now place absent).request.place ≡ r.place = ap (λ l. (get_or l place absent).request.place) (c.log-2.ensures.log ∙ ap (λ (v : LogView). v.log) c.log.ensures) in
     let opens : c.open_row.result ≡ open_row (bank_in r.place) history =
-    c.open_row.ensures x.queue.log history h.candidates_stand ∙ ap (λ (b : BankId). open_row b history) (c.bank_id.ensures ∙ ap bank_in place_is) in
+    c.open_row.ensures x.queue.log history h.is_in.candidates_stand ∙ ap (λ (b : BankId). open_row b history) (c.bank_id.ensures ∙ ap bank_in place_is) in
     let is : needed history r ≡ Pre (bank_in r.place) (source_of r) = needed-closing history r c.in-Some.row (sym c.in-Some.is ∙ opens) (λ e. c.if-row-asked.true (e ∙ sym (ap (λ (q : Place). q.row) place_is))) in
     let ready = c.close_bank-command.ensures.readied past h (ap Some (c.close_bank-command.ensures.command ∙ sym is) ∙ chosen) in
-    let seen = seen-told x past false c.seen-seen.result h c.seen-seen.ensures (none-due x past r h chosen) in
     let before = c.args.messages.now.items in
     on_ok_weaker c.issue-in-Some.result
     (λ told. has-issued c.close_bank-command.new.self c.issue-in-Some.new.self past (needed history r) c.close_bank-command.result false c.args.commands.now c.issue-in-Some.new.commands before before ready
-    (c.close_bank-command.ensures.command ∙ sym is) (c.issue-in-Some.ensures.stands past ready seen) told
+    (c.close_bank-command.ensures.command ∙ sym is) (c.issue-in-Some.ensures.stands past ready) told
     (silent-pre past.config past.channel (length past.steps) (bank_in r.place) (source_of r) before ∙ ap (λ z. before ++ messages_of past.config past.channel (length past.steps) z) (sym is)))
     c.issue-in-Some.ensures.commands
 
@@ -171,20 +166,14 @@ returns-in-Some-2 c past h chosen =
     let history = commands_after past in
     let place_is : (get_or c.log-2.result.now place absent).request.place ≡ r.place = ap (λ l. (get_or l place absent).request.place) (c.log-2.ensures.log ∙ ap (λ (v : LogView). v.log) c.log.ensures) in
     let opens : c.open_row.result ≡ open_row (bank_in r.place) history =
-    c.open_row.ensures x.queue.log history h.candidates_stand ∙ ap (λ (b : BankId). open_row b history) (c.bank_id.ensures ∙ ap bank_in place_is) in
+    c.open_row.ensures x.queue.log history h.is_in.candidates_stand ∙ ap (λ (b : BankId). open_row b history) (c.bank_id.ensures ∙ ap bank_in place_is) in
     let is : needed history r ≡ column_command r = needed-moving history r c.in-Some.row (sym c.in-Some.is ∙ opens) (c.if-row-asked.false ∙ ap (λ (q : Place). q.row) place_is) in
     subst (λ (z : Command). OnOk c.issue_column_command.result (HasIssued c.issue_column_command.new.self past z c.args.commands.now c.issue_column_command.new.commands c.args.messages.now.items c.issue_column_command.new.messages.items)) (sym is)
     (c.issue_column_command.ensures past h (ap Some (sym is) ∙ chosen))
 
 pub bounds-log-place : goal.bounds-log-place
 bounds-log-place c =
-    subst (λ l. c.args.place < length l) (sym (c.log-2.ensures.log ∙ ap (λ (v : LogView). v.log) c.log.ensures)) c.requires.chosen.place.0
-
-pub issue_column_command-requires-clause-seen : goal.issue_column_command-requires-clause-seen
-issue_column_command-requires-clause-seen c =
-    let x = c.args.self.now in
-    let p = c.requires.chosen in
-    c.seen-seen.ensures ∙ ap (seen_with x) (none-due x p.past (request_at x.queue.log c.args.place) p.is_in (chosen-needs x c.args.place p))
+    subst (λ l. c.args.place < length l) (sym (c.log-2.ensures.log ∙ ap (λ (v : LogView). v.log) c.log.ensures)) c.requires.acts.place.0
 
 pub issue_column_command-requires-clause-early : goal.issue_column_command-requires-clause-early
 issue_column_command-requires-clause-early c = c.requires.early

@@ -36,7 +36,7 @@ returns-clause-readied c past h chosen =
     ap (λ l. get_or l place absent) (c.log-2.ensures.log ∙ ap (λ (v : LogView). v.log) c.log.ensures) in
     let bank : c.bank_id-bank.result ≡ bank_in r.place = c.bank_id-bank.ensures ∙ ap (λ (a : Arrived). bank_in a.request.place) read in
     let log : c.log-3.result.now.log ≡ activated_at x.queue.log place = ap (λ (v : LogView). v.log) c.log-3.ensures ∙ ap (λ (q : QueueView). q.log) c.activate.ensures in
-    let before = subst (λ l. CandidatesStandFor x.bank_candidates l rows) (sym log) (activated_stand x.bank_candidates x.queue.log place rows h.candidates_stand) in
+    let before = subst (λ l. CandidatesStandFor x.bank_candidates l rows) (sym log) (activated_stand x.bank_candidates x.queue.log place rows h.is_in.candidates_stand) in
     let row : (get_or c.log-2.result.now place absent).request.place.row ≡ r.place.row = ap (λ (a : Arrived). a.request.place.row) read in
     let source : c.source.result ≡ source_of r = c.source.ensures ∙ ap (λ (a : Arrived). source_of a.request) read in
     let command : Act c.bank_id-bank.result (get_or c.log-2.result.now place absent).request.place.row c.source.result ≡ needed_at None r = λ i. Act (bank i) (row i) (source i) in
@@ -48,7 +48,7 @@ returns-clause-readied c past h chosen =
     (subst (λ (q : QueueView). IsReadied (record x { queue = q; banks = c.note_act.new.self; bank_candidates = c.opened.new.self }) past (needed_at None r) false) (sym c.activate.ensures)
     (opened-readied x past place c.opened.new.self c.note_act.new.self h c.requires.doing.within c.requires.doing.waits (ap Some (sym command) ∙ chosen) c.opened.ensures.banks placed
     (subst (λ z. BanksStandFor c.note_act.new.self past.config (commands_with past z)) command (noted-at x past _ c.note_act.new.self h
-    (c.note_act.ensures.stands past.config (commands_after past) past.channel _ c.source.result h.banks_stand (noted-later x past h))))))
+    (c.note_act.ensures.stands past.config (commands_after past) past.channel _ c.source.result h.is_in.banks_stand (noted-later x past h))))))
 
 pub note_act-requires-clause-rank : goal.note_act-requires-clause-rank
 note_act-requires-clause-rank c =

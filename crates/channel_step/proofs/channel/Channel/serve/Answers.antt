@@ -28,8 +28,8 @@ on_service-requires-clause-banks c =
     let x = c.args.self.now in
     let log : c.log.result.now.log ≡ served_at x.queue.log c.args.place = ap (λ (v : LogView). v.log) c.log.ensures ∙ ap (λ (q : QueueView). q.log) c.serve-unblocked.ensures.log in
     subst (All (λ (a : Arrived). bank_number a.request.place < bank_count x.bank_candidates)) (sym log)
-    (banks-below p.past.config.ranks (bank_count x.bank_candidates) (served_at x.queue.log c.args.place) p.is_in.made_for.banks_are
-    (subst (All (IsInBanks p.past.config.ranks)) (sym (all_served x.queue.log c.args.place)) p.is_in.made_for.in_banks))
+    (banks-below p.past.config.ranks (bank_count x.bank_candidates) (served_at x.queue.log c.args.place) p.is_in.is_in.made_for.banks_are
+    (subst (All (IsInBanks p.past.config.ranks)) (sym (all_served x.queue.log c.args.place)) p.is_in.is_in.made_for.in_banks))
 
 pub returns : goal.returns
 returns c past h chosen =
@@ -44,7 +44,7 @@ returns c past h chosen =
     subst (λ (v : LogView). IfSome c.serve-unblocked.result (λ k. k < length v.log)) (sym c.log.ensures) c.serve-unblocked.ensures.next in
     let stands =
     subst (λ l. CandidatesStandFor c.on_service.new.self l rows) log
-    (c.on_service.ensures.stands x.queue.log rows (record { within = c.requires.doing.within; waits = c.requires.doing.waits; log_is = log; marks_are = marks; next = next }) h.candidates_stand) in
+    (c.on_service.ensures.stands x.queue.log rows (record { within = c.requires.doing.within; waits = c.requires.doing.waits; log_is = log; marks_are = marks; next = next }) h.is_in.candidates_stand) in
     let then : c.log-3.result.now ≡ served_at x.queue.log place =
     c.log-3.ensures.log ∙ ap (λ (v : LogView). v.log) c.log-2.ensures ∙ ap (λ (q : QueueView). q.log) c.serve-unblocked.ensures.log in
     let left : get_or c.log-3.result.now place absent ≡ record (get_or x.queue.log place absent) { waits = false } =
@@ -54,7 +54,7 @@ returns c past h chosen =
     (subst (λ (q : QueueView). IsReadied (record x { queue = q; banks = c.note_column_command.new.banks; bank_candidates = c.on_service.new.self; served = c.note_served.new.kept }) past (column_command r) hit) (sym c.serve-unblocked.ensures.log)
     (served-readied x past place c.on_service.new.self c.note_column_command.new.banks c.note_served.new.kept h c.requires.doing.within c.requires.doing.waits chosen c.on_service.ensures.banks stands
     (subst (λ (q : Request). BanksStandFor c.note_column_command.new.banks past.config (commands_with past (column_command q))) c.requires.request (noted-at x past _ c.note_column_command.new.banks h
-    (c.note_column_command.ensures.stands past.config (commands_after past) past.channel h.banks_stand (noted-later x past h))))
+    (c.note_column_command.ensures.stands past.config (commands_after past) past.channel h.is_in.banks_stand (noted-later x past h))))
     (c.in_ok-note_served.ensures ∙ ap (λ (a : Arrived). with_more (kept_rows x.served) (served_now x.number x.cycle a.request (not a.activated) ∷ [])) left)))
 
 pub serve-unblocked-requires-clause-within : goal.serve-unblocked-requires-clause-within

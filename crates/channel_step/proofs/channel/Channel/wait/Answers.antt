@@ -1,6 +1,4 @@
-use Rattle.std.proofs.Common.{◌≡◌, ◌<◌, ◌≤◌, false, length, sym, ap, subst, ◌∙◌, arith}
-use Rattle.std.specs.Prelude.{is_some}
-use Rattle.bank_ready.specs.Refreshes.{lowest_owed}
+use Rattle.std.proofs.Common.{length, sym, subst, ◌∙◌, arith}
 use Rattle.channel_step.specs.Channels.{IsInCycle, idle_after}
 use Rattle.channel_step.specs.declared.channel.Channel.{Channel}
 use Rattle.channel_step.proofs.Skipping.{skips-first_fits, skips-not_due, waited-none, skips-none_due, none_due}

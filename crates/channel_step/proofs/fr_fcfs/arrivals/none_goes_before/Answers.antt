@@ -1,5 +1,5 @@
 -- One request more comes after, and then all that have arrived.
-use Rattle.std.proofs.Common.{◌≡◌, true, List, ◌++◌, length, drop, sym, ap, ap₂, subst, ◌∙◌, arith}
+use Rattle.std.proofs.Common.{◌≡◌, true, List, ◌++◌, length, drop, sym, ap, subst, ◌∙◌, arith}
 use Rattle.std.proofs.lemmas.Bool.{true≢false}
 use Rattle.std.proofs.lemmas.List.{take-append-drop, drop-map, get_or-map, length-map}
 use Rattle.std.proofs.lemmas.List.Elements.{AllWithin-more, AllWithin-upto}
