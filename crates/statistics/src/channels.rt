@@ -153,7 +153,9 @@ impl ChannelStats {
             (cycle_without_command self.old.draining queued refreshing draining)) }
     {
         self.queued += u128::from(cycles) * queued as u128;
-        self.queued_max = self.queued_max.max(queued as u64);
+        if self.queued_max < queued as u64 {
+            self.queued_max = queued as u64;
+        }
         if queued == 0 {
             self.idle += cycles;
         }
