@@ -1,19 +1,14 @@
 -- A list of rows by cycle, cut at a cycle: those up to it, and those after it.
-use Rattle.std.proofs.Common.{◌≡◌, ℕ, zero, suc, ◌+◌, ◌<◌, ◌≤◌, leb, ltb, List, [], ◌∷◌, ◌++◌, take, drop, Option, Some, None, slice_get, IfSome, refl, sym, ap, ap₂, subst, ◌∙◌, add-one, arith}
-use Rattle.std.specs.Prelude.{unwrap_or}
+use Rattle.std.proofs.Common.{◌≡◌, ℕ, zero, suc, ◌+◌, ◌<◌, ◌≤◌, leb, ltb, List, [], ◌∷◌, ◌++◌, take, drop, Some, slice_get, refl, sym, ap, ap₂, subst, ◌∙◌, add-one, arith}
 use Rattle.std.specs.List.{AllByRecursion as Each}
 use Rattle.std.proofs.lemmas.Bool.{cond-true, cond-false, le-leb, lt-leb, lt-ltb, le-ltb}
-use Rattle.std.proofs.lemmas.List.{append-nil, take-append-drop, take-take, drop-take}
+use Rattle.std.proofs.lemmas.List.{append-nil, take-append-drop}
 use Rattle.std.proofs.lemmas.List.Elements.{filter-append}
 use Rattle.sim_base.specs.declared.command.IssuedCommand.{IssuedCommand}
 use Rattle.sim_base.proofs.Each.{Each-get}
 use Rattle.command_table.specs.Tables.{IsRising, rows_up_to, rows_after}
 use Rattle.command_table.specs.Lefts.{AllUpTo, AllAfter}
 use Rattle.command_table.proofs.Rising.{Rising, rising-pairs}
-
--- of a part of a list, the first so many
-pub front-of-part : (rows : List IssuedCommand) (place end count : ℕ) → place + count ≤ end → drop place (take (place + count) rows) ≡ take count (drop place (take end rows))
-front-of-part rows place end count l = ap (drop place) (sym (take-take (place + count) end rows l)) ∙ drop-take place count (take end rows)
 
 -- where a row is up to a cycle, so are those before it
 pub up-to-here : (rows : List IssuedCommand) (count cycle : ℕ) (row : IssuedCommand) → IsRising rows → slice_get rows count ≡ Some row → row.cycle ≤ cycle → AllUpTo cycle (take (count + 1) rows)
@@ -71,8 +66,3 @@ rest-after rows count cycle up after =
     sym (ap (rows_after cycle) (sym (take-append-drop count rows))
     ∙ filter-append (λ (row : IssuedCommand). ltb cycle row.cycle) (take count rows) (drop count rows)
     ∙ ap₂ (λ xs ys. xs ++ ys) (after-none cycle (take count rows) up) (after-all cycle (drop count rows) after))
-
--- rows that may not be there
-pub rows-there : (found : Option (List IssuedCommand)) (rows : List IssuedCommand) → IfSome found (λ left. left ≡ rows) → (found ≡ None → rows ≡ []) → unwrap_or found [] ≡ rows
-rows-there None rows some none = sym (none refl)
-rows-there (Some left) rows some none = some

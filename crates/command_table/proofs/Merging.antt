@@ -1,5 +1,5 @@
 -- A table of several lists goes on with the row of the list that begins earliest.
-use Rattle.std.proofs.Common.{◌≡◌, ℕ, zero, suc, ◌<◌, ◌≤◌, Bool, true, false, eqb, List, [], ◌∷◌, ◌++◌, length, get_or, set, drop, slice_get, Option, Some, None, IfSome, refl, sym, ap, subst, ◌∙◌, arith}
+use Rattle.std.proofs.Common.{◌≡◌, ℕ, zero, suc, ◌<◌, ◌≤◌, Bool, true, false, eqb, List, [], ◌∷◌, ◌++◌, length, get_or, set, drop, slice_get, Some, IfSome, refl, sym, ap, subst, ◌∙◌, arith}
 use Rattle.std.specs.Prelude.{All}
 use Rattle.std.specs.List.{AllByRecursion as Each}
 use Rattle.std.proofs.lemmas.Bool.{eqb-true, eqb-false}
@@ -156,11 +156,10 @@ pub set-rises : (lists : List (List IssuedCommand)) (place : ℕ) (rest : List I
 set-rises lists place rest r h = All-set IsRising lists place rest h r
 
 -- the table is the row that is taken and what is left
-pub table-next : (taken : Option IssuedCommand) (lists new : List (List IssuedCommand)) (place : ℕ) (old : List IssuedCommand) → All IsRising lists → IsNext lists place
-    → old ≡ get_or lists place old → taken ≡ slice_get old 0 → table_of new ≡ table_of (set lists place (drop 1 (get_or lists place []))) → IfSome taken (λ row. table_of lists ≡ row ∷ table_of new)
-table-next None lists new place old r n o t e = tt
-table-next (Some row) lists new place [] r n o t e = absurd (cc)
-table-next (Some row) lists new place (first ∷ rest) r n o t e =
+pub table-next : (row : IssuedCommand) (lists new : List (List IssuedCommand)) (place : ℕ) (old : List IssuedCommand) → All IsRising lists → IsNext lists place
+    → old ≡ get_or lists place old → slice_get old 0 ≡ Some row → table_of new ≡ table_of (set lists place (drop 1 (get_or lists place []))) → table_of lists ≡ row ∷ table_of new
+table-next row lists new place [] r n o t e = absurd (cc)
+table-next row lists new place (first ∷ rest) r n o t e =
     let same : first ≡ row = cc in
     let is : get_or lists place [] ≡ row ∷ rest = get_or_default lists place [] (first ∷ rest) n.next.within ∙ sym o ∙ ap (λ z. z ∷ rest) same in
     next-row lists place row rest r n is ∙ ap (λ z. row ∷ z) (ap (λ z. table_of (set lists place (drop 1 z))) (sym is) ∙ sym e)

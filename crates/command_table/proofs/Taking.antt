@@ -1,26 +1,10 @@
 -- What is left of a list without its first row.
-use Rattle.std.proofs.Common.{◌≡◌, ℕ, zero, suc, ◌+◌, ◌<◌, List, [], ◌∷◌, ◌++◌, length, get_or, take, drop, set, Some, slice_get, refl, sym, ap, ap₂, ◌∙◌, add-one, arith}
+use Rattle.std.proofs.Common.{◌≡◌, ℕ, zero, suc, ◌+◌, ◌<◌, List, [], ◌∷◌, ◌++◌, length, get_or, take, set, refl, sym, ap, ap₂, ◌∙◌, arith}
 use Rattle.command_table.specs.Tables.{all_rows as all}
 use Rattle.std.specs.List.{remove}
 use Rattle.std.proofs.lemmas.List.{take_more, append-nil}
 use Rattle.std.proofs.lemmas.List.Concat.{flat_map-append}
 use Rattle.sim_base.specs.declared.command.IssuedCommand.{IssuedCommand}
-use Rattle.command_table.specs.Lefts.{first_cycle}
-
--- what is left from a place on begins with the row there
-pub first-left : (rows : List IssuedCommand) (place : ℕ) (row : IssuedCommand) → slice_get rows place ≡ Some row → first_cycle (drop place rows) ≡ Some row.cycle
-first-left [] place row h = absurd (cc)
-first-left (first ∷ rows) zero row h = let e : first ≡ row = cc in ap (λ (z : IssuedCommand). Some z.cycle) e
-first-left (first ∷ rows) (suc place) row h = first-left rows place row h
-
-pub drop-one : (rows : List IssuedCommand) (place : ℕ) → drop (place + 1) rows ≡ drop 1 (drop place rows)
-drop-one rows place = ap (λ n. drop n rows) (add-one place) ∙ by rows place
-  where
-    by : (rows : List IssuedCommand) (place : ℕ) → drop (suc place) rows ≡ drop 1 (drop place rows)
-    by [] zero = refl
-    by [] (suc place) = refl
-    by (row ∷ rows) zero = refl
-    by (row ∷ rows) (suc place) = by rows place
 
 -- a list with no row can be left out
 pub without-empty : (lists : List (List IssuedCommand)) (place : ℕ) → place < length lists → all (remove lists place) ≡ all (set lists place [])

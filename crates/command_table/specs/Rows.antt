@@ -1,6 +1,7 @@
--- What a row that is kept in few bytes stands for.
+-- What a row stands for that is given by its kind and operands, or kept in few bytes.
 --     command_of kind rank group bank row column core entry      the command of a kind, with those operands that it has
 --     command_with kind operands      the same with operands that are together
+--     row_of parts      the row that a kind and operands stand for
 --     row_kept kind cycle entry row_and_channel column_and_bank core      the row that numbers of few bytes stand for
 --     operands_in command      the operands of a command, and 0 for those that it does not have
 --     IsUsual row      its numbers are those of a usual machine and trace
@@ -9,7 +10,8 @@ use Rattle.sim_base.specs.declared.command.Command.{Command}
 use Rattle.sim_base.specs.declared.command.Command.TheVariants.{Act as ACT, Rd as RD, Wr as WR, Pre as PRE, Prea as PREA, Ref as REF}
 use Rattle.sim_base.specs.declared.command.IssuedCommand.{IssuedCommand}
 use Rattle.sim_base.specs.declared.command.Kind.{Kind}
-use Rattle.command_table.specs.declared.compact.Operands.{Operands}
+use Rattle.command_table.specs.declared.parts.Operands.{Operands}
+use Rattle.command_table.specs.declared.parts.RowParts.{RowParts}
 use Rattle.sim_base.specs.declared.command.Kind.TheVariants.{Act, Rd, Wr, Pre, Prea, Ref}
 
 -- the command of a kind, with as many of these operands as it has
@@ -30,6 +32,11 @@ abbrev pub command_with : Kind → Operands → Command
 command_with kind operands =
     command_of kind operands.bank.rank operands.bank.group operands.bank.bank operands.row operands.column
     operands.source.core operands.source.entry
+
+-- the row that a kind and operands stand for
+abbrev pub row_of : RowParts → IssuedCommand
+row_of parts =
+    record { cycle = parts.cycle; channel = parts.channel; command = command_with parts.kind parts.operands }
 
 -- the row that numbers of few bytes stand for: the channel is the lowest 8 bits below the row, and the rank, the group
 -- and the bank are 2 bits each below the column

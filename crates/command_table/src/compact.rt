@@ -1,10 +1,10 @@
 //! A command in 16 bytes.
 
 ghost use Rattle.std.specs.Prelude.{◌≡◌, ◌↔◌, IsSome, IfSome};
-ghost use Rattle.sim_base.specs.Rules.{kind_of};
-ghost use Rattle.command_table.specs.Rows.{command_with, operands_in, IsUsual};
+ghost use Rattle.command_table.specs.Rows.{row_of, IsUsual};
 
-use sim_base::command::{Command, IssuedCommand, Kind, Source};
+use crate::parts::{Operands, RowParts, operands_of};
+use sim_base::command::{IssuedCommand, Kind, Source};
 use sim_base::place::BankId;
 use std::marker::Model;
 use std::mem::size_of;
@@ -13,7 +13,7 @@ use std::mem::size_of;
 /// columns below 2^10, channels and cores below 2^8, and ranks, groups and banks below 4. Operands that it does not
 /// have are 0.
 #[derive(Drop)]
-pub(crate) struct Compact {
+pub struct Compact {
     cycle: u32,
     entry: u32,
     /// The row, and below it 8 bits of the channel.
@@ -35,102 +35,6 @@ impl Model for Compact {
 }
 
 const _: () = prove!(size_of::<Compact>() == 16);
-
-/// The operands of a command, and 0 for those that it does not have.
-#[derive(Clone, Copy)]
-struct Operands {
-    bank: BankId,
-    row: u32,
-    column: u32,
-    source: Source,
-}
-
-const NO_SOURCE: Source = Source { core: 0, entry: 0 };
-
-/// The operands of a command of a whole rank.
-#[inline(always)]
-fn operands_of_rank(rank: u32) -> Operands
-    ensures { result ≡ operands_in (Command.Ref rank) }
-{
-    Operands {
-        bank: BankId {
-            rank,
-            group: 0,
-            bank: 0,
-        },
-        row: 0,
-        column: 0,
-        source: NO_SOURCE,
-    }
-}
-
-fn operands_of(command: Command) -> Operands
-    ensures operands { result ≡ operands_in command }
-    ensures command { command_with (kind_of command) result ≡ command }
-{
-    match command {
-        Command::Act { bank, row, source } => Operands {
-            bank,
-            row,
-            column: 0,
-            source,
-        },
-        Command::Rd {
-            bank,
-            row,
-            column,
-            source,
-        }
-        | Command::Wr {
-            bank,
-            row,
-            column,
-            source,
-        } => Operands {
-            bank,
-            row,
-            column,
-            source,
-        },
-        Command::Pre { bank, source } => Operands {
-            bank,
-            row: 0,
-            column: 0,
-            source,
-        },
-        Command::Prea { rank } | Command::Ref { rank } => operands_of_rank(rank),
-    }
-}
-
-/// The command of a kind with these operands.
-fn command_with(kind: Kind, operands: Operands) -> Command
-    ensures { result ≡ command_with kind operands }
-{
-    let Operands {
-        bank,
-        row,
-        column,
-        source,
-    } = operands;
-    match kind {
-        Kind::Act => Command::Act { bank, row, source },
-        Kind::Rd => Command::Rd {
-            bank,
-            row,
-            column,
-            source,
-        },
-        Kind::Wr => Command::Wr {
-            bank,
-            row,
-            column,
-            source,
-        },
-        Kind::Pre => Command::Pre { bank, source },
-        Kind::Prea => Command::Prea { rank: bank.rank },
-        Kind::Ref => Command::Ref { rank: bank.rank },
-    }
-}
 
 impl Compact {
     /// A command, if its numbers are those of a usual machine and trace.
@@ -161,8 +65,10 @@ impl Compact {
         })
     }
 
-    fn command(&self) -> Command
-        ensures { result ≡ self.now.command }
+    /// The row by its kind and operands.
+    #[inline(always)]
+    pub fn parts(&self) -> RowParts
+        ensures { row_of result ≡ self.now }
     {
         let place = u32::from(self.column_and_bank);
         let bank = BankId {
@@ -174,26 +80,24 @@ impl Compact {
             core: u16::from(self.core),
             entry: u64::from(self.entry),
         };
-        command_with(
-            self.kind,
-            Operands {
+        RowParts {
+            cycle: u64::from(self.cycle),
+            channel: self.row_and_channel % 256,
+            kind: self.kind,
+            operands: Operands {
                 bank,
                 row: self.row_and_channel / 256,
                 column: place / 64,
                 source,
             },
-        )
+        }
     }
 
-    /// The command.
+    /// The row.
     #[inline(always)]
     pub(crate) fn row(&self) -> IssuedCommand
         ensures { result ≡ self.now }
     {
-        IssuedCommand {
-            cycle: u64::from(self.cycle),
-            channel: self.row_and_channel % 256,
-            command: self.command(),
-        }
+        self.parts().row()
     }
 }

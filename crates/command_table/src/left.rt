@@ -1,54 +1,49 @@
 //! What is left to be read of a list of commands.
 
-ghost use Rattle.std.specs.Prelude.{◌≡◌, ◌≤◌, ◌++◌, [], Some, None, All, IfSome, OnOk, MatchBool, ◌+◌, unwrap_or, length, take, drop, slice_get};
+ghost use Rattle.std.specs.Prelude.{◌≡◌, ◌<◌, ◌≤◌, ◌++◌, [], Some, All, OnOk, MatchBool, ◌+◌, unwrap_or, length, take, drop, slice_get};
 ghost use Rattle.command_table.specs.Lefts.{first_cycle, AllUpTo, AllAfter};
+ghost use Rattle.command_table.specs.Lists.{stored_row, stored_rows};
 ghost use Rattle.command_table.specs.Tables.{IsRising, all_rows, rows_up_to, rows_after};
 
 use crate::list::CommandList;
+use crate::stored::{StoredRow, StoredRows};
 use sim_base::command::IssuedCommand;
 use sim_base::message::Cycle;
 use std::alloc::AllocError;
 use std::marker::Model;
 
-/// What is left of a list, at least one command: those from a place on and before an end, and the cycle of the first.
+/// What is left of a list, at least one command, and the cycle of the first.
 #[derive(Drop)]
 pub(crate) struct Left<'a> {
     cycle: Cycle,
-    list: &'a CommandList,
-    place: usize,
-    end: usize,
+    rows: StoredRows<'a>,
 }
 
 impl<'a> Model for Left<'a> {
-    ghost use Rattle.std.specs.Prelude.{◌≡◌, ◌<◌, ◌≤◌, List, Some, length, take, drop};
+    ghost use Rattle.std.specs.Prelude.{◌≡◌, List, Some};
     ghost use Rattle.sim_base.specs.declared.command.IssuedCommand.{IssuedCommand as Row};
     ghost use Rattle.command_table.specs.Lefts.{first_cycle};
+    ghost use Rattle.command_table.specs.Lists.{stored_rows};
 
     ghost Value = { List Row };
 
-    ghost view = { λ l. drop l.place (take l.end l.list.now) };
+    ghost view = { λ l. stored_rows l.rows };
 
-    ghost invariant = { λ l. (first_cycle (drop l.place (take l.end l.list.now)) ≡ Some l.cycle)
-        × (l.place < l.end) × (l.end ≤ length l.list.now) };
+    ghost invariant = { λ l. first_cycle (stored_rows l.rows) ≡ Some l.cycle };
 }
 
 impl<'a> Left<'a> {
-    /// The commands of a list from a place on and before an end, if there are any.
+    /// These commands, if there are any.
     #[inline(always)]
-    pub(crate) fn between(list: &'a CommandList, place: usize, end: usize) -> Option<Self>
-        requires { end ≤ length list.now }
-        ensures some { IfSome result (λ left. left ≡ drop place (take end list.now)) }
-        ensures none { result ≡ None → drop place (take end list.now) ≡ [] }
+    fn of_rows(rows: StoredRows<'a>) -> Option<Self>
+        ensures { unwrap_or result [] ≡ stored_rows rows.entry }
     {
-        if place >= end {
+        if rows.len() == 0 {
             return None;
         }
-        let cycle = list.get(place)?.cycle;
         Some(Left {
-            cycle,
-            list,
-            place,
-            end,
+            cycle: rows.at(0).row().cycle,
+            rows,
         })
     }
 
@@ -56,7 +51,7 @@ impl<'a> Left<'a> {
     pub(crate) fn of(list: &'a CommandList) -> Option<Self>
         ensures { unwrap_or result [] ≡ list.now }
     {
-        Left::between(list, 0, list.len())
+        Left::of_rows(list.stored())
     }
 
     /// A copy of what is left.
@@ -66,9 +61,7 @@ impl<'a> Left<'a> {
     {
         Left {
             cycle: self.cycle,
-            list: self.list,
-            place: self.place,
-            end: self.end,
+            rows: self.rows,
         }
     }
 
@@ -82,34 +75,58 @@ impl<'a> Left<'a> {
 
     /// The first command that is left.
     #[inline(always)]
-    pub(crate) fn first(&self) -> Option<IssuedCommand>
-        ensures { result ≡ slice_get self.now 0 }
+    pub(crate) fn first(&self) -> StoredRow<'a>
+        ensures { slice_get self.now 0 ≡ Some (stored_row result) }
     {
-        self.list.get(self.place)
+        self.rows.at(0)
     }
 
-    /// What is left without the first command, if anything is.
+    /// Whether just one command is left.
     #[inline(always)]
-    pub(crate) fn rest(&self) -> Option<Left<'a>>
-        ensures some { IfSome result (λ rest. rest ≡ drop 1 self.now) }
-        ensures none { result ≡ None → drop 1 self.now ≡ [] }
+    pub(crate) fn is_last(&self) -> bool
+        ensures { MatchBool result (length self.now ≡ 1) (1 < length self.now) }
     {
-        Left::between(self.list, self.place + 1, self.end)
+        self.rows.len() == 1
+    }
+
+    /// Takes off the first of several commands.
+    #[inline(always)]
+    pub(crate) fn advance(&mut self)
+        requires { 1 < length self.old }
+        ensures { self.new ≡ drop 1 self.old }
+    {
+        match self.rows {
+            StoredRows::Compact(rows) => {
+                self.cycle = rows[1].row().cycle;
+                self.rows = StoredRows::Compact(&rows[1..]);
+            }
+            StoredRows::Whole(rows) => self.advance_whole(rows),
+        }
+    }
+
+    /// Takes off the first of these commands, which are stored as they are, as few are.
+    #[inline(never)]
+    fn advance_whole(&mut self, rows: &'a [IssuedCommand])
+        requires { 1 < length rows.now }
+        ensures { self.new ≡ drop 1 rows.now }
+    {
+        self.cycle = rows[1].cycle;
+        self.rows = StoredRows::Whole(&rows[1..]);
     }
 
     /// How many commands are left.
     fn len(&self) -> usize
         ensures { result ≡ length self.now }
     {
-        self.end - self.place
+        self.rows.len()
     }
 
     /// The command that has `count` of those that are left before it, if there is one.
     pub(crate) fn get(&self, count: usize) -> Option<IssuedCommand>
         ensures { result ≡ slice_get self.now count }
     {
-        if count < self.end - self.place {
-            self.list.get(self.place + count)
+        if count < self.len() {
+            Some(self.rows.at(count).row())
         } else {
             None
         }
@@ -152,9 +169,8 @@ impl<'a> Left<'a> {
         requires { IsRising self.now }
         ensures { unwrap_or result [] ≡ rows_up_to cycle self.now }
     {
-        prove!(self.end <= usize::MAX);
-        let end = self.place + self.count_up_to(cycle);
-        Left::between(self.list, self.place, end)
+        let count = self.count_up_to(cycle);
+        Left::of_rows(self.rows.before(count))
     }
 
     /// The commands after a cycle, if there are any.
@@ -162,8 +178,8 @@ impl<'a> Left<'a> {
         requires { IsRising self.now }
         ensures { unwrap_or result [] ≡ rows_after cycle self.now }
     {
-        let place = self.place + self.count_up_to(cycle);
-        Left::between(self.list, place, self.end)
+        let count = self.count_up_to(cycle);
+        Left::of_rows(self.rows.behind(count))
     }
 }
 

@@ -1,9 +1,10 @@
 //! Commands in the order in which they were put in.
 
 ghost use Rattle.std.specs.Prelude.{◌≡◌, ◌++◌, ◌↔◌, [], ◌∷◌, length, slice_get, IsTrue, IfOk, OnOk, OnErr};
-ghost use Rattle.command_table.specs.Lists.{rows_of};
+ghost use Rattle.command_table.specs.Lists.{rows_of, stored_rows};
 
 use crate::compact::Compact;
+use crate::stored::StoredRows;
 use sim_base::command::IssuedCommand;
 use std::alloc::{AllocError, Global};
 use std::marker::Model;
@@ -76,6 +77,16 @@ impl CommandList {
         ensures { IsTrue result ↔ (self.now ≡ []) }
     {
         self.len() == 0
+    }
+
+    /// The commands, as they are stored.
+    pub(crate) fn stored(&self) -> StoredRows<'_>
+        ensures { stored_rows result ≡ self.now }
+    {
+        match &self.kept {
+            Storage::Compact(rows) => StoredRows::Compact(rows),
+            Storage::Whole(rows) => StoredRows::Whole(rows),
+        }
     }
 
     /// The command at a place, if there is one.

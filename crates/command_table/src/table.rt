@@ -2,10 +2,12 @@
 
 ghost use Rattle.std.specs.Prelude.{◌≡◌, ◌<◌, [], ◌∷◌, length, drop, slice_set, slice_index_or, None, All, IfOk, IfSome};
 ghost use Rattle.command_table.specs.Tables.{IsRising, table_of};
+ghost use Rattle.command_table.specs.Lists.{stored_row};
 ghost use Rattle.command_table.specs.Lefts.{IsNext};
 
 use crate::left::{Left, add};
 use crate::list::CommandList;
+use crate::stored::StoredRow;
 use sim_base::command::IssuedCommand;
 use std::alloc::{AllocError, Global};
 use std::marker::Model;
@@ -74,11 +76,10 @@ fn drop_first(lefts: &mut Vec<Left<'_>>, place: usize)
         (drop 1 (slice_index_or lefts.old.items place []))) }
     ensures rising { All IsRising lefts.old.items → All IsRising lefts.new.items }
 {
-    match lefts[place].rest() {
-        Some(rest) => lefts[place] = rest,
-        None => {
-            lefts.remove(place);
-        }
+    if lefts[place].is_last() {
+        lefts.remove(place);
+    } else {
+        lefts[place].advance();
     }
 }
 
@@ -105,6 +106,19 @@ impl<'a> Rows<'a> {
         Ok(Rows::of(lefts_copied(alloc, &self.lefts)?))
     }
 
+    /// Takes the next command as it is stored, if one is left.
+    #[inline(always)]
+    pub fn next_stored(&mut self) -> Option<StoredRow<'a>>
+        ensures some { IfSome result (λ row. self.old ≡ stored_row row ∷ self.new) }
+        ensures none { result ≡ None → self.old ≡ [] }
+        ensures over { self.old ≡ [] → self.new ≡ [] }
+    {
+        let place = earliest(&self.lefts)?;
+        let first = self.lefts[place].first();
+        drop_first(&mut self.lefts, place);
+        Some(first)
+    }
+
     /// Takes the next command, if one is left.
     #[inline(always)]
     pub fn next(&mut self) -> Option<IssuedCommand>
@@ -112,10 +126,7 @@ impl<'a> Rows<'a> {
         ensures none { result ≡ None → self.old ≡ [] }
         ensures over { self.old ≡ [] → self.new ≡ [] }
     {
-        let place = earliest(&self.lefts)?;
-        let left = self.lefts[place].copied();
-        drop_first(&mut self.lefts, place);
-        left.first()
+        Some(self.next_stored()?.row())
     }
 }
 

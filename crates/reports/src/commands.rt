@@ -2,6 +2,8 @@
 
 ghost use Rattle.std.specs.Prelude.{◌≡◌, ◌<◌, ◌≤◌, ◌+◌, ◌∷◌, ◌++◌, length, drop, Some, codes, IfErr};
 ghost use Rattle.sim_base.specs.Rules.{kind_of, rank_of};
+ghost use Rattle.command_table.specs.Lists.{stored_row};
+ghost use Rattle.command_table.specs.Rows.{command_with, row_of};
 ghost use Rattle.reports.specs.Rows.{comma, fields_text, with_rank, row_text, WritesOnOk};
 ghost use Rattle.sim_base.specs.Faults.{IsWriteFault};
 ghost use Rattle.reports.specs.Tables.{AddsRows};
@@ -11,8 +13,10 @@ use crate::hundreds::Hundred;
 use crate::line::{Line, ROOM, put, put_byte, put_bytes, put_last_long, put_rank, put_word};
 use crate::pieces::{MANY, MOST, TableLines, TableThreads, write_pieces, write_whole};
 use crate::table::{Loss, RowBuffer};
+use command_table::parts::{Operands, RowParts};
+use command_table::stored::StoredRow;
 use command_table::table::{CommandTable, Rows};
-use sim_base::command::{Command, IssuedCommand, Source};
+use sim_base::command::{IssuedCommand, Kind, Source};
 use sim_base::fault::Fault;
 use sim_base::place::BankId;
 use std::alloc::Global;
@@ -80,50 +84,65 @@ fn put_three(line: &mut Line, end: usize, first: u8, second: u8, third: u8) -> u
 
 // The fields from that of the kind on.
 #[inline(always)]
-fn put_kind(line: &mut Line, ranks: u32, command: &Command) -> usize
-    ensures text { drop result line.new ≡ kind_word (kind_of command.now) ++ comma
-        ∷ with_rank ranks (Some (rank_of command.now)) (fields_text (operand_fields command.now)) }
+fn put_kind(line: &mut Line, ranks: u32, kind: Kind, operands: &Operands) -> usize
+    ensures text { let command = command_with kind operands.now in
+        drop result line.new ≡ kind_word (kind_of command) ++ comma
+        ∷ with_rank ranks (Some (rank_of command)) (fields_text (operand_fields command)) }
     ensures low { 105 ≤ result }
     ensures high { result ≤ 256 }
 {
-    match command {
-        Command::Act { bank, row, source } => {
-            let start = put_request(line, bank, Some(*row), None, source);
-            let start = put_rank(line, start, ranks, Some(u64::from(bank.rank)));
+    let rank = operands.bank.rank;
+    let row = Some(operands.row);
+    match kind {
+        Kind::Act => {
+            let start = put_request(line, &operands.bank, row, None, &operands.source);
+            let start = put_rank(line, start, ranks, Some(u64::from(rank)));
             put_three(line, start, b'A', b'C', b'T')
         }
-        Command::Rd {
-            bank,
-            row,
-            column,
-            source,
-        } => {
-            let start = put_request(line, bank, Some(*row), Some(*column), source);
-            let start = put_rank(line, start, ranks, Some(u64::from(bank.rank)));
+        Kind::Rd => {
+            let column = Some(operands.column);
+            let start = put_request(line, &operands.bank, row, column, &operands.source);
+            let start = put_rank(line, start, ranks, Some(u64::from(rank)));
             put_two(line, start, b'R', b'D')
         }
-        Command::Wr {
-            bank,
-            row,
-            column,
-            source,
-        } => {
-            let start = put_request(line, bank, Some(*row), Some(*column), source);
-            let start = put_rank(line, start, ranks, Some(u64::from(bank.rank)));
+        Kind::Wr => {
+            let column = Some(operands.column);
+            let start = put_request(line, &operands.bank, row, column, &operands.source);
+            let start = put_rank(line, start, ranks, Some(u64::from(rank)));
             put_two(line, start, b'W', b'R')
         }
-        Command::Pre { bank, source } => {
-            let start = put_request(line, bank, None, None, source);
-            let start = put_rank(line, start, ranks, Some(u64::from(bank.rank)));
+        Kind::Pre => {
+            let start = put_request(line, &operands.bank, None, None, &operands.source);
+            let start = put_rank(line, start, ranks, Some(u64::from(rank)));
             put_three(line, start, b'P', b'R', b'E')
         }
-        Command::Prea { rank } => put_whole_rank(line, ranks, *rank, b"PREA"),
-        Command::Ref { rank } => put_whole_rank(line, ranks, *rank, b"REF"),
+        Kind::Prea => put_whole_rank(line, ranks, rank, b"PREA"),
+        Kind::Ref => put_whole_rank(line, ranks, rank, b"REF"),
     }
 }
 
 // A row, whose fields are put together from the last to the first.
+#[inline(always)]
 fn write_command<W: Write>(
+    table: &mut RowBuffer,
+    hundred: &mut Hundred,
+    ranks: u32,
+    row: &RowParts,
+    writer: &mut W,
+)
+    ensures { AddsRows W.contents writer.old table.old writer.new table.new
+        (row_text (command_fields ranks (row_of row.now))) }
+{
+    let line = &mut table.line;
+    let start = put_kind(line, ranks, row.kind, &row.operands);
+    let start = put(line, start, Some(u64::from(row.channel)));
+    let start = hundred.put_cycle(line, start, row.cycle);
+    table.write_row(start, writer);
+}
+
+// A row that is stored as it is, as few are.
+#[inline(never)]
+fn write_whole_command<W: Write>(
     table: &mut RowBuffer,
     hundred: &mut Hundred,
     ranks: u32,
@@ -133,11 +152,25 @@ fn write_command<W: Write>(
     ensures { AddsRows W.contents writer.old table.old writer.new table.new
         (row_text (command_fields ranks row.now)) }
 {
-    let line = &mut table.line;
-    let start = put_kind(line, ranks, &row.command);
-    let start = put(line, start, Some(u64::from(row.channel)));
-    let start = hundred.put_cycle(line, start, row.cycle);
-    table.write_row(start, writer);
+    write_command(table, hundred, ranks, &RowParts::of(*row), writer);
+}
+
+// A row, as it is stored.
+#[inline(always)]
+fn write_stored<W: Write>(
+    table: &mut RowBuffer,
+    hundred: &mut Hundred,
+    ranks: u32,
+    row: StoredRow<'_>,
+    writer: &mut W,
+)
+    ensures { AddsRows W.contents writer.old table.old writer.new table.new
+        (row_text (command_fields ranks (stored_row row.entry))) }
+{
+    match row {
+        StoredRow::Compact(row) => write_command(table, hundred, ranks, &row.parts(), writer),
+        StoredRow::Whole(row) => write_whole_command(table, hundred, ranks, row, writer),
+    }
 }
 
 // Each command that is left.
@@ -146,8 +179,8 @@ fn write_each<W: Write>(table: &mut RowBuffer, ranks: u32, mut rows: Rows<'_>, w
         (lines_text ranks rows.entry) }
 {
     let mut hundred = Hundred::new();
-    while let Some(row) = rows.next() {
-        write_command(table, &mut hundred, ranks, &row, writer);
+    while let Some(row) = rows.next_stored() {
+        write_stored(table, &mut hundred, ranks, row, writer);
     }
 }
 

@@ -17,6 +17,7 @@ pub(crate) struct Hundred {
     digits: [u8; DIGITS],
     start: usize,
     ghost some: { 100 ≤ first },
+    ghost few: { first < 1_000_000_000_000_000_000 },
     ghost whole: { first % 100 ≡ 0 },
     ghost within: { start ≤ 16 },
     ghost common: { drop start digits ≡ decimal (first / 100) },
@@ -105,7 +106,7 @@ impl Hundred {
         ensures high { result < end }
     {
         let start = put_byte(line, end, b',');
-        if cycle < self.first || cycle - self.first >= 100 {
+        if cycle.wrapping_sub(self.first) >= 100 {
             return self.put_other(line, start, cycle);
         }
         self.put_one(line, start, cycle)
