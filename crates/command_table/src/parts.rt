@@ -36,6 +36,7 @@ fn operands_of_rank(rank: u32) -> Operands
     }
 }
 
+/// The operands of a command.
 pub(crate) fn operands_of(command: Command) -> Operands
     ensures operands { result ≡ operands_in command }
     ensures command { command_with (kind_of command) result ≡ command }
