@@ -1,8 +1,8 @@
 -- The log of those that wait has their marks and their tags.
-use Rattle.std.proofs.Common.{◌≡◌, ℕ, ◌+◌, Bool, false, not, cond, ◌&&◌, ◌||◌, List, [], ◌∷◌, map, filter, refl, sym, ap, ◌∙◌, inl, inr, arith}
+use Rattle.std.proofs.Common.{◌≡◌, ℕ, suc, ◌+◌, Bool, true, false, not, cond, ◌&&◌, ◌||◌, List, [], ◌∷◌, length, drop, map, filter, refl, sym, ap, ◌∙◌, inl, inr, arith}
 use Rattle.std.proofs.lemmas.Bool.{cases_Bool}
 use Rattle.std.proofs.lemmas.List.Sums.{sum_by-cons}
-use Rattle.std.specs.List.{zip, count_by}
+use Rattle.std.specs.List.{zip, count_by, prefix_len}
 use Rattle.std.proofs.Math.Bool.{or-false}
 use Rattle.sim_base.specs.Places.{is_line}
 use Rattle.sim_base.specs.declared.place.Place.{Place}
@@ -28,6 +28,46 @@ waiting_twice (a ∷ log) = elim (cases_Bool a.waits) [
       ∙ waiting_twice log
       ∙ ap (λ b. cond b (a ∷ waiting log) (waiting log)) (sym not)
 ]
+
+items_none : (items : List ℕ) → waiting_items [] (drop 0 items) ≡ waiting_items [] items
+items_none items = refl
+
+-- the requests that were served before all that wait may be left out
+abbrev pub served_before : List Arrived → ℕ
+served_before log = prefix_len (λ a. not a.waits) log
+
+pub front_waiting : (log : List Arrived) → waiting (drop (served_before log) log) ≡ waiting log
+unfolding waiting
+front_waiting [] = refl
+front_waiting (a ∷ log) = by a.waits refl (front_waiting log)
+  where
+    by : (b : Bool) → a.waits ≡ b → filter (λ x. x.waits) (drop (served_before log) log) ≡ filter (λ x. x.waits) log
+        → filter (λ x. x.waits) (drop (cond (not a.waits) (1 + served_before log) 0) (a ∷ log)) ≡ cond a.waits (a ∷ filter (λ x. x.waits) log) (filter (λ x. x.waits) log)
+    by true e rest = ap (λ b. filter (λ x. x.waits) (drop (cond (not b) (1 + served_before log) 0) (a ∷ log))) e
+    by false e rest =
+        ap (λ b. filter (λ x. x.waits) (drop (cond (not b) (1 + served_before log) 0) (a ∷ log))) e
+        ∙ ap (λ n. filter (λ x. x.waits) (drop n (a ∷ log))) (let one : 1 + served_before log ≡ suc (served_before log) = omega arith in one)
+        ∙ rest
+        ∙ ap (λ b. cond b (a ∷ filter (λ x. x.waits) log) (filter (λ x. x.waits) log)) (sym e)
+
+pub front_items : (log : List Arrived) (items : List ℕ) → length items ≡ length log
+    → waiting_items (drop (served_before log) log) (drop (served_before log) items) ≡ waiting_items log items
+front_items [] items long = items_none items
+front_items (a ∷ log) [] long = absurd (omega (arith, long))
+front_items (a ∷ log) (x ∷ items) long = by a.waits refl (front_items log items (omega (arith, long)))
+  where
+    kept : Bool → List (Arrived × ℕ)
+    kept b = cond b ((a, x) ∷ filter (λ e. e.0.waits) (zip log items)) (filter (λ e. e.0.waits) (zip log items))
+
+    by : (b : Bool) → a.waits ≡ b → waiting_items (drop (served_before log) log) (drop (served_before log) items) ≡ waiting_items log items
+        → waiting_items (drop (cond (not a.waits) (1 + served_before log) 0) (a ∷ log)) (drop (cond (not a.waits) (1 + served_before log) 0) (x ∷ items))
+        ≡ map (λ e. e.1) (kept a.waits)
+    by true e rest = ap (λ b. waiting_items (drop (cond (not b) (1 + served_before log) 0) (a ∷ log)) (drop (cond (not b) (1 + served_before log) 0) (x ∷ items))) e
+    by false e rest =
+        ap (λ b. waiting_items (drop (cond (not b) (1 + served_before log) 0) (a ∷ log)) (drop (cond (not b) (1 + served_before log) 0) (x ∷ items))) e
+        ∙ ap (λ n. waiting_items (drop n (a ∷ log)) (drop n (x ∷ items))) (let one : 1 + served_before log ≡ suc (served_before log) = omega arith in one)
+        ∙ rest
+        ∙ ap (λ b. map (λ e. e.1) (kept b)) (sym e)
 
 marks_waiting : (asked : Place → Bool) (log : List Arrived) → marks_after asked (waiting log) ≡ waiting_items log (marks_after asked log)
 unfolding waiting

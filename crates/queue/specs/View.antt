@@ -23,9 +23,9 @@ pub record QueueView : Type 0 where
   pub log : List Arrived
   pub drain_decided : Bool
 
--- for how many requests a queue has places, where `room` may wait: twice as many and 768 more, but at most 65,534
+-- for how many requests a queue has places, where `room` may wait: twice as many and 2,048 more, but at most 65,534
 abbrev pub places_for : ℕ → ℕ
-places_for room = min (room * 2 + 768) 65534
+places_for room = min (room * 2 + 2048) 65534
 
 -- a queue with no requests, in which `room` may wait, and which drains its writes from `high` of them down to `low`
 abbrev pub empty_queue : ℕ → ℕ → ℕ → QueueView

@@ -18,7 +18,7 @@ const MOST_PLACES: usize = 65_534;
 
 /// The requests that wait move to the front where more places are in use than twice as many and this number, so that a
 /// log in which few wait stays short, and its places in the caches.
-const SPARE_PLACES: usize = 768;
+const SPARE_PLACES: usize = 2048;
 
 /// Whether a queue with `writes` writes drains, given whether it drained before.
 #[inline(always)]

@@ -5,7 +5,8 @@ pub(crate) mod chains;
 mod lines;
 pub mod words;
 
-ghost use Rattle.std.specs.Prelude.{◌≡◌, ◌^◌, ◌+◌, ◌-◌, ◌<◌, ◌≤◌, length, slice_set, vec_capacity};
+ghost use Rattle.std.specs.Prelude.{◌≡◌, ◌^◌, ◌+◌, ◌-◌, ◌<◌, ◌≤◌, not, length, drop, slice_set, vec_capacity};
+ghost use Rattle.std.specs.List.{prefix_len};
 ghost use Rattle.queue.specs.Columns.{bank_number, tag_word, counter_of_row, waiting_items};
 
 use crate::request_log::chains::{Chains, class_of};
@@ -61,6 +62,25 @@ fn set_recent(recent: &mut [u16], number: usize, place: usize)
     if number < recent.len() {
         recent[number] = place as u16;
     }
+}
+
+/// How many requests at the head of a log were served.
+fn served_in_front(log: &[Arrived]) -> usize
+    ensures served { result ≡ prefix_len (λ a. not a.waits) log.now }
+    ensures within { result ≤ length log.now }
+{
+    log.iter().take_while(|arrived| !arrived.waits).count()
+}
+
+/// Takes out the first `count` items.
+fn drop_first<T: Copy>(items: &mut Vec<T>, count: usize)
+    requires { count ≤ length items.old.items }
+    ensures items { items.new.items ≡ drop count items.old.items }
+    ensures room { vec_capacity items.new ≡ vec_capacity items.old }
+{
+    let len = items.len();
+    items.copy_within(count..len, 0);
+    items.truncate(len - count);
 }
 
 /// Moves the tags of the requests that wait to the front, in their order.
@@ -327,6 +347,10 @@ impl RequestLog {
     pub fn renumber(&mut self)
         ensures { self.new ≡ record self.old { log = waiting self.old.log } }
     {
+        // most of those that were served stand before all that wait
+        let served = served_in_front(&self.log);
+        drop_first(&mut self.log, served);
+        drop_first(&mut self.tags, served);
         keep_waiting(&self.log, &mut self.tags);
         self.log.retain(|arrived| arrived.waits);
         self.chains.renew(&self.log);
