@@ -1,6 +1,6 @@
 //! The table of commands, `commands.csv`.
 
-ghost use Rattle.std.specs.Prelude.{◌≡◌, ◌<◌, ◌≤◌, ◌+◌, ◌∷◌, ◌++◌, length, drop, Some, codes, IfErr};
+ghost use Rattle.std.specs.Prelude.{◌≡◌, ◌<◌, ◌≤◌, ◌+◌, ◌/◌, ◌%◌, [], ◌∷◌, ◌++◌, length, drop, decimal, Some, codes, IfErr};
 ghost use Rattle.sim_base.specs.Rules.{kind_of, rank_of};
 ghost use Rattle.command_table.specs.Lists.{stored_row};
 ghost use Rattle.command_table.specs.Rows.{command_with, row_of};
@@ -23,6 +23,48 @@ use std::alloc::Global;
 use std::io::Write;
 use std::thread::Threads;
 
+// The fields of a group and of a bank of it, by the number of the bank among those of four groups of four banks.
+#[inline(always)]
+fn bank_fields(number: u32) -> [u8; 4]
+    requires { number < 16 }
+    ensures { result ≡ decimal (number / 4) ++ comma ∷ decimal (number % 4) ++ comma ∷ [] }
+{
+    match number {
+        0 => *b"0,0,",
+        1 => *b"0,1,",
+        2 => *b"0,2,",
+        3 => *b"0,3,",
+        4 => *b"1,0,",
+        5 => *b"1,1,",
+        6 => *b"1,2,",
+        7 => *b"1,3,",
+        8 => *b"2,0,",
+        9 => *b"2,1,",
+        10 => *b"2,2,",
+        11 => *b"2,3,",
+        12 => *b"3,0,",
+        13 => *b"3,1,",
+        14 => *b"3,2,",
+        _ => *b"3,3,",
+    }
+}
+
+// The fields of a group and of a bank before the others. They are put at once where they have one digit each.
+#[inline(always)]
+fn put_bank(line: &mut Line, end: usize, bank: &BankId) -> usize
+    requires { (42 ≤ end) × (end ≤ 256) }
+    ensures text { drop result line.new
+        ≡ decimal bank.now.group ++ comma ∷ decimal bank.now.bank ++ comma ∷ drop end line.old }
+    ensures low { end ≤ result + 42 }
+    ensures high { result < end }
+{
+    if bank.group < 4 && bank.bank < 4 {
+        return put_bytes(line, end, &bank_fields(4 * bank.group + bank.bank));
+    }
+    let start = put(line, end, Some(u64::from(bank.bank)));
+    put(line, start, Some(u64::from(bank.group)))
+}
+
 // The fields of a command of a request, after that of the rank.
 #[inline(always)]
 fn put_request(
@@ -41,8 +83,7 @@ fn put_request(
     let start = put(line, start, Some(u64::from(source.core)));
     let start = put(line, start, column.map(u64::from));
     let start = put(line, start, row.map(u64::from));
-    let start = put(line, start, Some(u64::from(bank.bank)));
-    put(line, start, Some(u64::from(bank.group)))
+    put_bank(line, start, bank)
 }
 
 // The fields of a command of a whole rank, from this word of its kind on: those behind the rank are empty.

@@ -1,0 +1,62 @@
+-- The text of each number.
+use Rattle.std.proofs.Common.{◌≡◌, ℕ, ◌+◌, ◌/◌, ◌%◌, ◌<◌, List, [], ◌∷◌, ◌++◌, decimal, sym, ap, ap₂, ◌∙◌, arith}
+use Rattle.std.proofs.lemmas.Fmt.{decimal_digit}
+use Rattle.reports.specs.Rows.{comma}
+use Rattle.reports.proofs.commands.bank_fields.Goals as goal
+
+abbrev pub text : ℕ → List ℕ
+text n = (48 + n / 4) ∷ 44 ∷ (48 + n % 4) ∷ 44 ∷ []
+
+digits : (n : ℕ) → n < 16 → text n ≡ decimal (n / 4) ++ comma ∷ decimal (n % 4) ++ comma ∷ []
+digits n few =
+    ap₂ (λ group bank. group ++ comma ∷ bank ++ comma ∷ []) (sym (decimal_digit (n / 4) (omega (arith, few)))) (sym (decimal_digit (n % 4) (omega (arith, few))))
+
+pub returns-in-0 : goal.returns-in-0
+returns-in-0 c = ap text (sym c.in-0.is) ∙ digits c.args.number c.requires
+
+pub returns-in-1 : goal.returns-in-1
+returns-in-1 c = ap text (sym c.in-1.is) ∙ digits c.args.number c.requires
+
+pub returns-in-2 : goal.returns-in-2
+returns-in-2 c = ap text (sym c.in-2.is) ∙ digits c.args.number c.requires
+
+pub returns-in-3 : goal.returns-in-3
+returns-in-3 c = ap text (sym c.in-3.is) ∙ digits c.args.number c.requires
+
+pub returns-in-4 : goal.returns-in-4
+returns-in-4 c = ap text (sym c.in-4.is) ∙ digits c.args.number c.requires
+
+pub returns-in-5 : goal.returns-in-5
+returns-in-5 c = ap text (sym c.in-5.is) ∙ digits c.args.number c.requires
+
+pub returns-in-6 : goal.returns-in-6
+returns-in-6 c = ap text (sym c.in-6.is) ∙ digits c.args.number c.requires
+
+pub returns-in-7 : goal.returns-in-7
+returns-in-7 c = ap text (sym c.in-7.is) ∙ digits c.args.number c.requires
+
+pub returns-in-8 : goal.returns-in-8
+returns-in-8 c = ap text (sym c.in-8.is) ∙ digits c.args.number c.requires
+
+pub returns-in-9 : goal.returns-in-9
+returns-in-9 c = ap text (sym c.in-9.is) ∙ digits c.args.number c.requires
+
+pub returns-in-10 : goal.returns-in-10
+returns-in-10 c = ap text (sym c.in-10.is) ∙ digits c.args.number c.requires
+
+pub returns-in-11 : goal.returns-in-11
+returns-in-11 c = ap text (sym c.in-11.is) ∙ digits c.args.number c.requires
+
+pub returns-in-12 : goal.returns-in-12
+returns-in-12 c = ap text (sym c.in-12.is) ∙ digits c.args.number c.requires
+
+pub returns-in-13 : goal.returns-in-13
+returns-in-13 c = ap text (sym c.in-13.is) ∙ digits c.args.number c.requires
+
+pub returns-in-14 : goal.returns-in-14
+returns-in-14 c = ap text (sym c.in-14.is) ∙ digits c.args.number c.requires
+
+pub returns-in_default : goal.returns-in_default
+returns-in_default c =
+    let last : c.args.number ≡ 15 = omega (arith, c.requires, c.in_default.in_default-own) in
+    ap text (sym last) ∙ digits c.args.number c.requires
