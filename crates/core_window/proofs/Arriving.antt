@@ -1,14 +1,15 @@
 -- The next message by age, of replies and credits.
-use Rattle.std.proofs.Common.{◌≡◌, ◌<◌, ◌-◌, true, false, List, [], ◌∷◌, length, get_or, take, drop, sym, ap, ◌∙◌, refl, subst, arith}
-use Rattle.std.specs.Prelude.{fold}
+use Rattle.std.proofs.Common.{◌≡◌, ℕ, ◌<◌, ◌-◌, Bool, true, false, List, [], ◌∷◌, length, get_or, take, drop, sym, ap, ◌∙◌, refl, subst, arith}
+use Rattle.std.specs.Prelude.{fold, min}
 use Rattle.std.specs.List.{AllByRecursion as Each}
 use Rattle.std.proofs.Math.Seq.{take-length}
 use Rattle.std.proofs.lemmas.Bool.{cond-true, cond-false}
 use Rattle.std.proofs.lemmas.Bool.Decides.{nat_tests}
 use Rattle.sim_base.specs.History.{is_before, insert_by_age, by_age}
 use Rattle.sim_base.specs.declared.message.Message.{Message}
-use Rattle.sim_base.proofs.Arrived.{put, puts, by_age-puts, fold-puts}
+use Rattle.sim_base.proofs.Arrived.{put, puts, by_age-puts, fold-puts, before_le, not_before_le}
 use Rattle.sim_base.proofs.Ordered.{Each-weaker, Sorted, Sorted-puts}
+use Rattle.core_window.specs.Arriving.{first_arrival}
 
 -- none of some messages is before this one
 abbrev NoneBefore : Message → List Message → Type 0
@@ -81,3 +82,27 @@ pub none_before_first : (a d : Message) (ys : List Message) → 0 < length ys �
 none_before_first a d [] l s h = tt
 none_before_first a d (y ∷ ys) l s h =
     (h, Each-weaker _ (λ (z : Message). is_before z a ≡ false) (λ z k. after_both a y z h k) ys (in_order-Sorted (y ∷ ys) s).0)
+
+-- the first arrival, where there are no replies
+pub arrival-credit : (until : ℕ) (d : Message) (replies credits : List Message) → length replies < 1 → 0 < length credits → by_age credits ≡ credits
+    → (get_or credits 0 d).arrival ≡ first_arrival until (fold insert_by_age replies credits)
+arrival-credit until d replies credits e l s =
+    sym (ap (first_arrival until) (credit_first (get_or credits 0 d) replies credits (others credits) (first_and_others d credits l) s (no_reply (get_or credits 0 d) replies e)))
+
+-- and where there are both
+pub arrival-both : (until : ℕ) (d : Message) (replies credits : List Message) → 0 < length replies → 0 < length credits → by_age credits ≡ credits
+    → min (get_or replies 0 d).arrival (get_or credits 0 d).arrival ≡ first_arrival until (fold insert_by_age replies credits)
+arrival-both until d replies credits k l s = by (is_before (get_or credits 0 d) (get_or replies 0 d)) refl
+  where
+    by : (b : Bool) → is_before (get_or credits 0 d) (get_or replies 0 d) ≡ b
+        → min (get_or replies 0 d).arrival (get_or credits 0 d).arrival ≡ first_arrival until (fold insert_by_age replies credits)
+    by true h =
+        let first : fold insert_by_age replies credits ≡ get_or credits 0 d ∷ fold insert_by_age replies (others credits) =
+        credit_first (get_or credits 0 d) replies credits (others credits) (first_and_others d credits l) s (reply_younger (get_or credits 0 d) d replies h) in
+        let least : min (get_or replies 0 d).arrival (get_or credits 0 d).arrival ≡ (get_or credits 0 d).arrival = omega (arith, before_le (get_or credits 0 d) (get_or replies 0 d) h) in
+        least ∙ sym (ap (first_arrival until) first)
+    by false h =
+        let first : fold insert_by_age replies credits ≡ get_or replies 0 d ∷ fold insert_by_age (others replies) credits =
+        reply_first (get_or replies 0 d) replies credits (others replies) (first_and_others d replies k) (none_before_first (get_or replies 0 d) d credits l s h) in
+        let least : min (get_or replies 0 d).arrival (get_or credits 0 d).arrival ≡ (get_or replies 0 d).arrival = omega (arith, not_before_le (get_or credits 0 d) (get_or replies 0 d) h) in
+        least ∙ sym (ap (first_arrival until) first)

@@ -18,3 +18,4 @@ pub mod Silent
 pub mod Sticking
 pub mod Masking
 pub mod Memory
+pub mod Stalling

@@ -233,7 +233,7 @@ reply_follows steps m entry e now l =
 -- the core after a reply
 pub reply-stands : (s : Config) (core : ℕ) (trace : List Entry) (steps : List CoreStep) (mail : List Message) (m : Message) (a b : CoreView) (entry : ℕ)
     → StandsAt s core trace steps mail a → m.arrival ≡ length steps → m.payload ≡ payload.Reply entry → IsAwaited trace steps mail entry
-    → b ≡ after_reply a (record { entry = entry; issued = issue_cycle steps entry })
+    → b ≡ after_reply a (record { entry = entry; issued = issue_cycle steps entry }) a.now
     → StandsAt s core trace steps (mail ++ m ∷ []) b
 unfolding core_stats waited
 reply-stands s core trace steps mail m a b entry h now is due e =

@@ -26,7 +26,7 @@ use Rattle.statistics.specs.declared.final_state.Credits.{Credits}
 use Rattle.core_window.specs.Arriving.{IsByAge, all_arriving}
 use Rattle.core_window.specs.declared.receive.Arriving.{Arriving}
 use Rattle.core_window.specs.Fit.{MayCome, IsByArrival, IsFit, CanRun, RunsOver, RunsOnto}
-use Rattle.core_window.specs.Inside.{credits_now, StandsAt, IsStanding, IsReceiving, IsMidway, Sends, Advances, GoesOn}
+use Rattle.core_window.specs.Inside.{credits_now, StandsAt, IsStanding, IsReceiving, IsMidway, HasTaken, Sends, Advances, GoesOn}
 use Rattle.core_window.specs.Stands.{StandsFor}
 use Rattle.core_window.specs.Views.{CoreView}
 use Rattle.core_window.proofs.Stepping.{with_none_arrived, held-all}
@@ -159,13 +159,6 @@ stands-for s core trace steps mail a h before =
       before = before;
       past = h.past;
     }
-
--- what a core that takes its inbox stands for, whatever it stood for
-abbrev pub HasTaken : CoreView → ℕ → ℕ → List Message → ℕ → CoreView → List Message → Type 0
-HasTaken a from until inbox taken b sent =
-    (s : Config) (core : ℕ) (trace : List Entry) (steps : List CoreStep) (mail : List Message)
-    → StandsFor s core trace steps mail a → IsFit s core trace steps mail from until inbox
-    → IsMidway s core trace steps mail from until inbox taken b sent
 
 -- what a core that takes its inbox stands for, whatever it stood for, when what it sent is put behind what a list held
 pub record IsTaking (a : CoreView) (from until : ℕ) (inbox : List Message) (taken : ℕ) (b : CoreView) (held holds : List Message) : Type 0 where

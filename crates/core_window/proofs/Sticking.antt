@@ -135,3 +135,11 @@ pub stalled-rests : (s : Config) (core : ℕ) (trace : List Entry) (steps : List
 stalled-rests s core trace steps mail a within undone most h =
     let x = seen_from a.trace a.stats.issued within in
     at_rest s core trace steps mail a idle_step (stalled_cause a x.second_at) None refl (stalled-does a x.first_at x.second_at x.entry x.seen undone most) h
+
+-- so it does nothing, and stops where no entry is left, or its window is full
+pub stalled-idles : (a : CoreView) → a.stats.issued ≤ length a.trace → first_undone a.stats.issued a.outstanding ≤ a.stats.retired → a.stats.issued - a.stats.retired ≡ a.config.window
+    → Does a idle_step (cond (eqb a.stats.issued (length a.trace)) End Window) None
+stalled-idles a within undone full =
+    let x = seen_from a.trace a.stats.issued within in
+    subst (λ why. Does a idle_step why None) (stalled_cause-full a x.second_at (omega (arith, a.config.core_in_range.width_in)) full)
+    (stalled-does a x.first_at x.second_at x.entry x.seen undone (omega arith))

@@ -121,3 +121,14 @@ found-own e (x ∷ reads) read h = by (eqb x.entry e) (eqb-true x.entry e) (foun
         some_same : Some x ≡ Some read → x ≡ read
         some_same p = cc
     by false same i q = i q
+
+-- where no Read has the number, none is taken out
+pub none-out : (e : ℕ) (reads : List OutstandingRead) → ((read : OutstandingRead) → find (is_it e) reads ≡ Some read → ⊥) → filter (is_other e) reads ≡ reads
+none-out e [] h = refl
+none-out e (x ∷ reads) h = by (eqb x.entry e) h (none-out e reads)
+  where
+    by : (b : Bool) → ((read : OutstandingRead) → cond b (Some x) (find (is_it e) reads) ≡ Some read → ⊥)
+        → (((read : OutstandingRead) → find (is_it e) reads ≡ Some read → ⊥) → filter (is_other e) reads ≡ reads)
+        → cond (not b) (x ∷ filter (is_other e) reads) (filter (is_other e) reads) ≡ x ∷ reads
+    by true k i = absurd (k x refl)
+    by false k i = ap (λ l. x ∷ l) (i k)

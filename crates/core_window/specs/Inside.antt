@@ -5,6 +5,7 @@
 --     GoesOn until a before b after      a core goes some cycles, at most up to `until`, and adds what it sends
 --     GoesOnWithoutSending until a b      a core goes zero or more cycles, and sends nothing
 --     IsReceiving view m      a core stands at the cycle in which a message comes
+--     HasTaken before from until inbox taken view sent      a core has taken the first messages of its inbox
 --     Does view core_step why memory      what a core does in the next cycle
 use Rattle.std.specs.Prelude.{◌≡◌, ℕ, ◌-◌, ◌<◌, ◌≤◌, List, ◌++◌, length, take, drop, slice_get, Option, Some}
 use Rattle.std.specs.List.{AllByRecursion as Each}
@@ -20,8 +21,8 @@ use Rattle.cpu_trace.specs.declared.entries.MemoryEntry.{MemoryEntry}
 use Rattle.statistics.specs.Cores.{core_stats, core_joined, replies_in, only_replies}
 use Rattle.statistics.specs.declared.cores.CoreStats.{CoreStats}
 use Rattle.statistics.specs.declared.final_state.Credits.{Credits}
-use Rattle.core_window.specs.Fit.{MayCome}
-use Rattle.core_window.specs.Stands.{IsPast, credits_had, credits_spent}
+use Rattle.core_window.specs.Fit.{MayCome, IsFit}
+use Rattle.core_window.specs.Stands.{IsPast, StandsFor, credits_had, credits_spent}
 use Rattle.core_window.specs.OneCycle.{IsWork}
 use Rattle.core_window.specs.Views.{CoreView}
 use Rattle.core_window.specs.Outstanding.{outstanding_reads}
@@ -111,6 +112,13 @@ pub record IsMidway (s : Config) (core : ℕ) (trace : List Entry) (steps : List
       ≡ core_messages s core trace steps ++ sent
   pub others : Each (λ m. view.now ≤ m.arrival) (drop taken inbox)
   pub until_then : view.now ≤ until
+
+-- within a span a core has taken the first `taken` messages of its inbox, and sent these, whatever it stood for before
+abbrev pub HasTaken : CoreView → ℕ → ℕ → List Message → ℕ → CoreView → List Message → Type 0
+HasTaken before from until inbox taken view sent =
+    (s : Config) (core : ℕ) (trace : List Entry) (steps : List CoreStep) (mail : List Message)
+    → StandsFor s core trace steps mail before → IsFit s core trace steps mail from until inbox
+    → IsMidway s core trace steps mail from until inbox taken view sent
 
 -- one core may do what another may: they may differ in their number, in the cycle where they stand, and in what they
 -- counted, except for the entries that they issued and retired

@@ -17,3 +17,4 @@ pub mod Foreseen
 pub mod Counting
 pub mod Work
 pub mod Waiting
+pub mod Stalled

@@ -3,7 +3,9 @@
 --     Rests s core trace steps mail n      a core does nothing in n cycles in which no message comes
 --     IsNextAct s core trace steps mail cycle      the first cycle in which a core acts, where no message comes
 --     HasSomePast view      a core that stands for some steps and messages
-use Rattle.std.specs.Prelude.{◌≡◌, ℕ, ◌+◌, ◌-◌, ◌≤◌, List, ◌++◌, length, replicate, Option, Some, None}
+--     rested view until      a core after it did nothing up to a cycle
+--     MayRest view until      the counts of a core have room for the cycles up to this one
+use Rattle.std.specs.Prelude.{◌≡◌, ℕ, ◌^◌, ◌+◌, ◌-◌, ◌<◌, ◌≤◌, ◌==◌, if◌then◌else◌, List, ◌++◌, length, replicate, Option, Some, None}
 use Rattle.sim_base.specs.declared.config.Config.{Config}
 use Rattle.sim_base.specs.Machine.{core_run}
 use Rattle.sim_base.specs.Windows.{step}
@@ -47,3 +49,22 @@ pub record HasSomePast (view : CoreView) : Type 0 where
   pub steps : List CoreStep
   pub mail : List Message
   pub stands : StandsFor s core trace steps mail view
+
+-- A core after it did nothing up to a cycle, where the first entry of its full window waits: it counts these cycles, as
+-- such in which no entry of its trace was left, or in which its window was full.
+abbrev pub rested : CoreView → ℕ → CoreView
+rested view until =
+    let cycles = until - view.now in
+    let none_left = view.stats.issued == length view.trace in
+    record view {
+      now = until;
+      stats = record view.stats {
+        stop_end = view.stats.stop_end + (if none_left then cycles else 0);
+        stop_window = view.stats.stop_window + (if none_left then 0 else cycles);
+      };
+    }
+
+-- the counts of a core have room for the cycles up to this one
+pub record MayRest (view : CoreView) (until : ℕ) : Type 0 where
+  pub none_left : view.stats.stop_end + (until - view.now) < 2 ^ 64
+  pub full : view.stats.stop_window + (until - view.now) < 2 ^ 64

@@ -1,6 +1,6 @@
 //! A core.
 
-ghost use Rattle.std.specs.Prelude.{[], IsTrue, ◌↔◌, ◌/◌, ◌%◌, ◌≡◌, ◌^◌, ◌+◌, ◌*◌, ◌-◌, ◌≤◌, ◌<◌, ℕ, Some, length, slice_get, min, replicate, OnOk, IfOk};
+ghost use Rattle.std.specs.Prelude.{[], IsTrue, IsNone, ◌↔◌, ◌/◌, ◌%◌, ◌≡◌, ◌^◌, ◌+◌, ◌*◌, ◌-◌, ◌≤◌, ◌<◌, ℕ, Some, length, slice_get, min, replicate, OnOk, IfOk};
 ghost use Rattle.std.specs.Option.{IfSome};
 ghost use Rattle.sim_base.specs.declared.history.CoreStep.{CoreStep};
 ghost use Rattle.sim_base.specs.declared.message.Message.{Message};
@@ -10,14 +10,15 @@ ghost use Rattle.address_map.specs.Shifts.{IsDigits};
 ghost use Rattle.statistics.specs.declared.final_state.Credits.{Credits};
 ghost use Rattle.core_window.specs.Ahead.{IsPlaced, IsKnown};
 ghost use Rattle.core_window.specs.Arriving.{IsByAge, all_arriving};
+ghost use Rattle.core_window.specs.Stalled.{HasTakenUpTo, StaysBehind, FindsReply};
 ghost use Rattle.core_window.specs.OneCycle.{lacks_by, IsSeen};
 ghost use Rattle.core_window.specs.Fit.{CanRun, RunsOnto};
 ghost use Rattle.core_window.specs.Stands.{StandsFor};
 ghost use Rattle.core_window.specs.Inside.{IsStanding, IsReceiving, GoesOnWithoutSending};
-ghost use Rattle.core_window.specs.Rests.{HasSomePast, idle_step};
+ghost use Rattle.core_window.specs.Rests.{HasSomePast, MayRest, rested};
 ghost use Rattle.core_window.specs.Silence.{KeepsSilent};
 ghost use Rattle.core_window.specs.Steady.{steady_view, IsSteady};
-ghost use Rattle.core_window.specs.Replies.{MayTakeReply, TakesReplyOf};
+ghost use Rattle.core_window.specs.Replies.{MayTakeReply, with_reply};
 ghost use Rattle.core_window.specs.Outstanding.{IsByNumber};
 ghost use Rattle.core_window.specs.Waiting.{waiting};
 ghost use Rattle.core_window.specs.Latencies.{request_latencies};
@@ -30,8 +31,8 @@ use crate::issue::{
 };
 use crate::issue_effects::{RequestingCore, request_latencies, send, spend, wait_for};
 use crate::outstanding::OutstandingReads;
-use crate::receive::{Arriving, add_credit_at, channel_of, count_reply};
-use crate::retire::{cause_where_full, is_next_done, is_stalled, retire_count};
+use crate::receive::{Arriving, Reply, add_credit_at, channel_of, count_reply};
+use crate::retire::{is_next_done, is_stalled, retire_count};
 use address_map::digits::Digits;
 use cpu_trace::entries::MemoryEntry;
 use cpu_trace::trace::Trace;
@@ -111,25 +112,6 @@ impl Core {
     ghost use Rattle.core_window.specs.CoreViews.{view_of};
     ghost use Rattle.core_window.specs.Work.{HeadWaits, IsFull, StaysBelowFirst, StaysBelowSecond, HasMemoryAhead, DoesWork};
     ghost use Rattle.core_window.specs.Work.{IsSteadyFlow, AdvancesBy, AdvancesTo, GoesOnTo, with_credits, TakesIn, ActsNext};
-
-    /// What the core does in the next cycle, where the first entry of its full window waits: nothing.
-    fn idle_work(&self) -> CycleWork
-        requires stands { IsStanding (view_of self.now) }
-        requires undone { HeadWaits (view_of self.now) }
-        requires full { IsFull (view_of self.now) }
-        ensures does { DoesWork (view_of self.now) result }
-        ensures idle { result.core_step ≡ idle_step }
-    {
-        let why = cause_where_full(self.trace.len(), self.stats.issued);
-        CycleWork {
-            core_step: CoreStep {
-                retired: 0,
-                issued: 0,
-            },
-            why,
-            memory: None,
-        }
-    }
 
     /// What the core does in the next cycle.
     #[inline(always)]
@@ -218,14 +200,14 @@ impl Core {
         self.cycle += cycles;
     }
 
-    /// A reply comes: its Read no longer waits.
-    fn receive_reply(&mut self, entry: u64)
+    /// A reply comes in a cycle: its Read no longer waits.
+    fn receive_reply(&mut self, entry: u64, arrival: Cycle)
         requires room { MayTakeReply (view_of self.old) }
         requires order { IsByNumber (waiting self.old.outstanding) }
-        ensures { TakesReplyOf entry (view_of self.old) (view_of self.new) }
+        ensures { view_of self.new ≡ with_reply (view_of self.old) entry arrival }
     {
         if let Some(read) = self.outstanding.take(entry) {
-            count_reply(&mut self.stats, self.cycle.saturating_sub(read.issued));
+            count_reply(&mut self.stats, arrival.saturating_sub(read.issued));
         }
     }
 
@@ -248,7 +230,7 @@ impl Core {
         ensures { TakesIn (view_of self.old) message (view_of self.new) }
     {
         match message.payload {
-            Payload::Reply(entry) => self.receive_reply(entry),
+            Payload::Reply(entry) => self.receive_reply(entry, self.cycle),
             Payload::Credit { access, .. } => self.receive_credit(message.link, access),
             Payload::Request(_) => (),
         }
@@ -318,18 +300,19 @@ impl Core {
         )
     }
 
-    /// Goes on up to a cycle, where the first entry of its full window waits.
+    /// Goes on up to a cycle, where the first entry of its full window waits: it does nothing, and counts the cycles.
     fn rest(&mut self, until: Cycle)
-        requires stands { IsStanding (view_of self.old) }
-        requires undone { HeadWaits (view_of self.old) }
-        requires full { IsFull (view_of self.old) }
-        requires order { self.old.cycle < until }
-        requires early { until < 2 ^ 62 }
-        ensures goes { GoesOnWithoutSending until (view_of self.old) (view_of self.new) }
-        ensures cycle { self.new.cycle ≡ until }
+        requires room { MayRest (view_of self.old) until }
+        requires order { self.old.cycle ≤ until }
+        ensures { view_of self.new ≡ rested (view_of self.old) until }
     {
-        let cycle_work = self.idle_work();
-        self.repeat(cycle_work.core_step, cycle_work.why, until - self.cycle);
+        let cycles = until - self.cycle;
+        if self.stats.issued == self.trace.len() {
+            self.stats.stop_end += cycles;
+        } else {
+            self.stats.stop_window += cycles;
+        }
+        self.cycle = until;
     }
 
     /// Goes on by the cycles, at most up to a cycle, in which the core issues its width of Plain entries and does the
@@ -442,6 +425,52 @@ impl Core {
         })
     }
 
+    /// Takes the credits that arrive before the next reply, without coming up to their cycles, and finds that reply, if
+    /// there is one and it is to another entry than `first`.
+    #[inline(always)]
+    fn take_up_to_reply(&mut self, rest: &mut Arriving<'_>, first: u64) -> Option<Reply>
+        requires channels { length self.old.credits.items ≡ self.old.config.channels }
+        requires by_age { IsByAge rest.old.credits.now }
+        ensures channels { length self.new.credits.items ≡ self.new.config.channels }
+        ensures some { IfSome result
+            (FindsReply first (view_of self.old) rest.old (view_of self.new) rest.new) }
+        ensures none { IsNone result
+            → StaysBehind first (view_of self.old) rest.old (view_of self.new) rest.new }
+    {
+        'credits: while let Some((message, later)) = rest.due_credit() {
+            let Payload::Credit { access, .. } = message.payload else {
+                return None;
+            };
+            self.receive_credit(message.link, access);
+            rest.credits = later;
+        }
+        rest.next_other_reply(first)
+    }
+
+    /// Takes what arrives before the reply to the first entry of its full window, if that waits, and then rests up to
+    /// the cycle in which the next message arrives, or up to `until`. What is left is returned.
+    #[inline(always)]
+    fn take_while_stalled<'a>(&mut self, arriving: Arriving<'a>, until: Cycle) -> Arriving<'a>
+        requires order { self.old.cycle ≤ until }
+        requires early { until < 2 ^ 62 }
+        requires by_age { IsByAge arriving.credits.now }
+        requires fit { CanRun (view_of self.old) self.old.cycle until (all_arriving arriving) }
+        ensures { HasTakenUpTo (view_of self.old) self.old.cycle until arriving.entry result
+            (view_of self.new) }
+    {
+        let mut rest = arriving;
+        if !self.is_stalled() {
+            return rest;
+        }
+        let first = self.stats.retired;
+        'replies: while let Some(reply) = self.take_up_to_reply(&mut rest, first) {
+            self.receive_reply(reply.entry, reply.arrival);
+        }
+        let next = rest.first_arrival(until);
+        self.rest(next);
+        rest
+    }
+
     /// Runs the cycles from `from`, where the core stands, up to but not including `until`, below 2^62. The messages
     /// that arrive in these cycles are given; the messages that the core sends in them are put behind what `sent`
     /// holds. The only error is out of memory; what the core and the list hold is then not known.
@@ -461,7 +490,7 @@ impl Core {
         ensures { OnOk result (RunsOnto (view_of self.old) from until (all_arriving arriving.entry)
             (view_of self.new) sent.old.items sent.new.items) }
     {
-        let mut rest = arriving;
+        let mut rest = self.take_while_stalled(arriving, until);
         'messages: while let Some(message) = rest.next() {
             self.advance(message.arrival, sent)?;
             self.receive(*message);

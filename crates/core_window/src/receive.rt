@@ -1,14 +1,21 @@
 //! What arrives at a core, and what it changes.
 
 ghost use Rattle.std.specs.Prelude.{◌≡◌, ◌+◌, ◌/◌, ◌%◌, ◌<◌, ◌^◌, [], ◌∷◌, length, IfSome, IsNone};
-ghost use Rattle.core_window.specs.Arriving.{IsByAge, all_arriving};
+ghost use Rattle.core_window.specs.Arriving.{IsByAge, all_arriving, IsNextCredit, BeginsWithReply, IsNextReply, first_arrival};
 ghost use Rattle.core_window.specs.Counting.{counted_reply, HasRoom, IsCreditedAt};
 ghost use Rattle.core_window.specs.OneCycle.{more_credit, less_credit};
 
 use sim_base::config::Config;
-use sim_base::message::{Access, LinkId, Message};
+use sim_base::message::{Access, Cycle, LinkId, Message, Payload};
 use statistics::cores::CoreStats;
 use statistics::final_state::Credits;
+
+/// A reply that comes: of which entry, and in which cycle.
+#[derive(Clone, Copy)]
+pub(crate) struct Reply {
+    pub entry: u64,
+    pub arrival: Cycle,
+}
 
 /// What arrives at a core: replies and credits, each by age.
 #[derive(Clone, Copy)]
@@ -40,6 +47,56 @@ impl<'a> Arriving<'a> {
                 Some(credit)
             }
             ([], []) => None,
+        }
+    }
+
+    /// The first of the credits and those after it, if it is the next message by age.
+    #[inline(always)]
+    pub(crate) fn due_credit(&self) -> Option<(&'a Message, &'a [Message])>
+        requires { IsByAge self.now.credits.now }
+        ensures some { IfSome result (λ due. IsNextCredit self.now due.0.now due.1.now) }
+        ensures none { IsNone result → BeginsWithReply self.now }
+    {
+        match (self.replies, self.credits) {
+            ([reply, ..], [credit, later @ ..]) if credit.is_before(reply) => Some((credit, later)),
+            ([_, ..], _) => None,
+            ([], [credit, later @ ..]) => Some((credit, later)),
+            ([], []) => None,
+        }
+    }
+
+    /// Takes the first of the replies, if it is to another entry than `first`.
+    #[inline(always)]
+    pub(crate) fn next_other_reply(&mut self, first: u64) -> Option<Reply>
+        ensures some { IfSome result (λ reply. IsNextReply first self.old reply self.new) }
+        ensures none { IsNone result → self.new ≡ self.old }
+    {
+        match self.replies {
+            [message, later @ ..] => match message.payload {
+                Payload::Reply(entry) if entry != first => {
+                    self.replies = later;
+                    Some(Reply {
+                        entry,
+                        arrival: message.arrival,
+                    })
+                }
+                _ => None,
+            },
+            [] => None,
+        }
+    }
+
+    /// The cycle in which the next message arrives; where there is none, `until`.
+    #[inline(always)]
+    pub(crate) fn first_arrival(&self, until: Cycle) -> Cycle
+        requires { IsByAge self.now.credits.now }
+        ensures { result ≡ first_arrival until (all_arriving self.now) }
+    {
+        match (self.replies, self.credits) {
+            ([reply, ..], [credit, ..]) => reply.arrival.min(credit.arrival),
+            ([reply, ..], []) => reply.arrival,
+            ([], [credit, ..]) => credit.arrival,
+            ([], []) => until,
         }
     }
 }

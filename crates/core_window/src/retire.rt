@@ -1,10 +1,9 @@
 //! How many entries retire in a cycle.
 
-ghost use Rattle.std.specs.Prelude.{◌≡◌, ◌-◌, ◌<◌, ◌≤◌, ◌↔◌, ◌==◌, if◌then◌else◌, min, IsTrue};
+ghost use Rattle.std.specs.Prelude.{◌≡◌, ◌-◌, ◌<◌, ◌≤◌, ◌↔◌, min, IsTrue};
 ghost use Rattle.core_window.specs.Causes.{first_undone};
 
 use crate::outstanding::OutstandingRead;
-use sim_base::trace::Stop;
 
 /// The first entry that is not done, where `issued` entries were issued and these Reads wait.
 fn first_undone(outstanding: &[OutstandingRead], issued: u64) -> u64
@@ -41,16 +40,5 @@ pub fn is_stalled(window: u32, outstanding: &[OutstandingRead], issued: u64, ret
     match outstanding {
         [read, ..] => { read.entry <= retired && u64::from(window) <= issued - retired }
         [] => false,
-    }
-}
-
-/// Why no entry issues from a number on, where the window is full.
-pub fn cause_where_full(len: u64, number: u64) -> Stop
-    ensures { result ≡ (if number == len then Stop.End else Stop.Window) }
-{
-    if number == len {
-        Stop::End
-    } else {
-        Stop::Window
     }
 }

@@ -1,8 +1,10 @@
 -- No cycle is left where the core stands at the last one.
-use Rattle.std.proofs.Common.{◌≡◌, ◌-◌, refl, sym, subst, arith}
+use Rattle.std.proofs.Common.{◌≡◌, ◌-◌, refl, sym, ap, subst, arith}
 use Rattle.core_window.specs.CoreViews.{view_of}
-use Rattle.core_window.specs.Inside.{Advances}
+use Rattle.core_window.specs.Inside.{Advances, GoesOnWithoutSending}
+use Rattle.core_window.specs.Views.{CoreView}
 use Rattle.core_window.proofs.Running.{advances-none}
+use Rattle.core_window.proofs.Stalling.{rests-goes, stalled-standing, may_rest}
 use Rattle.core_window.proofs.Working.{sound}
 use Rattle.core_window.proofs.core_unit.Core.advance.Goals as goal
 
@@ -18,23 +20,19 @@ returns-then-until-self-clause-advances c =
 pub returns-then-until-self-clause-cycle : goal.returns-then-until-self-clause-cycle
 returns-then-until-self-clause-cycle c = omega (arith, c.if-until-self.true, c.requires.order)
 
-pub rest-requires-clause-stands : goal.rest-requires-clause-stands
-rest-requires-clause-stands c = c.requires.stands
-
-pub rest-requires-clause-undone : goal.rest-requires-clause-undone
-rest-requires-clause-undone c = c.if-is_stalled.ensures.undone refl
-
-pub rest-requires-clause-full : goal.rest-requires-clause-full
-rest-requires-clause-full c = c.if-is_stalled.ensures.full refl
-
-pub rest-requires-clause-order : goal.rest-requires-clause-order
-rest-requires-clause-order c = c.if-until-self.false
-
-pub rest-requires-clause-early : goal.rest-requires-clause-early
-rest-requires-clause-early c = c.requires.early
+pub rest-requires-clause-room : goal.rest-requires-clause-room
+rest-requires-clause-room c = may_rest (view_of c.args.self.now) c.args.until c.requires.stands c.requires.early c.requires.order
 
 pub returns-then-is_stalled-clause-cycle : goal.returns-then-is_stalled-clause-cycle
-returns-then-is_stalled-clause-cycle c = c.rest.ensures.cycle
+returns-then-is_stalled-clause-cycle c = ap (λ (v : CoreView). v.now) c.rest.ensures
+
+pub returns-then-is_stalled-clause-advances : goal.returns-then-is_stalled-clause-advances
+returns-then-is_stalled-clause-advances c =
+    let v = view_of c.args.self.now in
+    let stalled = stalled-standing v c.requires.stands (c.if-is_stalled.ensures.undone refl) (c.if-is_stalled.ensures.full refl) in
+    let goes : GoesOnWithoutSending c.args.until v (view_of c.rest.new.self) = subst (GoesOnWithoutSending c.args.until v) (sym c.rest.ensures) (rests-goes v v.stats.retired c.args.until stalled c.requires.order) in
+    let now : c.rest.new.self.cycle ≡ c.args.until = ap (λ (w : CoreView). w.now) c.rest.ensures in
+    subst (λ n. Advances (n - c.args.self.now.cycle) v c.args.sent.now.items (view_of c.rest.new.self) c.args.sent.now.items) now (goes.advances c.args.sent.now.items)
 
 pub work_on-requires-clause-stands : goal.work_on-requires-clause-stands
 work_on-requires-clause-stands c = c.requires.stands

@@ -1,11 +1,12 @@
 -- A reply and a credit, each by its lemma; no request is due at a core.
-use Rattle.std.proofs.Common.{◌∙◌, sym, ap, subst, find, eqb}
-use Rattle.sim_base.specs.Counts.{issue_cycle}
+use Rattle.std.proofs.Common.{◌≡◌, ◌∙◌, ◌∷◌, [], ◌++◌, sym, ap, subst}
 use Rattle.core_window.specs.CoreViews.{view_of}
 use Rattle.core_window.specs.Fit.{MayCarry}
 use Rattle.core_window.specs.Outstanding.{IsByNumber}
-use Rattle.core_window.specs.declared.outstanding.OutstandingRead.{OutstandingRead}
-use Rattle.core_window.proofs.Receiving.{outstanding-by_number, reply-room, reply-stands, credit-stands, awaited_found}
+use Rattle.core_window.specs.Inside.{StandsAt}
+use Rattle.core_window.specs.Replies.{with_reply}
+use Rattle.core_window.proofs.Receiving.{outstanding-by_number, reply-room, credit-stands}
+use Rattle.core_window.proofs.Stalling.{takes-reply}
 use Rattle.core_window.proofs.core_unit.Core.receive.Goals as goal
 
 pub receive_reply-requires-clause-order : goal.receive_reply-requires-clause-order
@@ -18,11 +19,10 @@ receive_reply-requires-clause-room c =
 
 pub returns-in-Reply : goal.returns-in-Reply
 returns-in-Reply c s core trace steps mail h now due =
-    let entry = c.in-Reply.entry in
-    let awaited = subst (MayCarry s core trace steps mail c.args.message.link) c.in-Reply.is due in
-    reply-stands s core trace steps mail c.args.message (view_of c.args.self.now) (view_of c.receive_reply.new.self) entry h now c.in-Reply.is awaited
-    (c.receive_reply.ensures (record { entry = entry; issued = issue_cycle steps entry })
-    (ap (find (λ (r : OutstandingRead). eqb r.entry entry)) h.outstanding ∙ awaited_found trace steps mail entry awaited))
+    let v = view_of c.args.self.now in
+    let same : with_reply v c.in-Reply.entry c.args.message.arrival ≡ view_of c.receive_reply.new.self = ap (with_reply v c.in-Reply.entry) (now ∙ sym h.now) ∙ sym c.receive_reply.ensures in
+    subst (StandsAt s core trace steps (mail ++ c.args.message ∷ [])) same
+    (takes-reply v c.args.message c.in-Reply.entry s core trace steps mail c.in-Reply.is h now due)
 
 pub returns-in-Credit : goal.returns-in-Credit
 returns-in-Credit c s core trace steps mail h now due =

@@ -1,8 +1,11 @@
 -- The core goes on up to each message, takes it, and goes on to the end.
-use Rattle.std.proofs.Common.{◌<◌, ◌≡◌, ◌∷◌, ◌^◌, ◌∙◌, ◌+◌, ℕ, drop, refl, sym, subst, arith}
+use Rattle.std.proofs.Common.{[], ◌<◌, ◌≡◌, ◌∷◌, ◌^◌, ◌∙◌, ◌+◌, ℕ, drop, refl, sym, subst, arith}
+use Rattle.std.proofs.lemmas.List.{append-nil}
 use Rattle.core_window.specs.Arriving.{all_arriving}
 use Rattle.core_window.specs.CoreViews.{view_of}
-use Rattle.core_window.proofs.Running.{is_at, taking-first, taking-standing, taking-order, taking-within, taking-until, taking-on, taking-receives, taking-more, taking-last}
+use Rattle.core_window.specs.Fit.{CanRun}
+use Rattle.core_window.specs.Inside.{HasTaken}
+use Rattle.core_window.proofs.Running.{is_at, taking-standing, taking-order, taking-within, taking-until, taking-on, taking-receives, taking-more, taking-last}
 use Rattle.core_window.proofs.Stretching.{ok-map}
 use Rattle.core_window.proofs.core_unit.Core.run.Goals as goal
 
@@ -11,12 +14,21 @@ early_of x u l k = omega arith
 
 pub messages-init : goal.messages-init
 messages-init c =
+    let up = c.take_while_stalled-rest.ensures in
+    let inbox = all_arriving c.args.arriving in
     record {
-      taken = 0;
-      left = refl;
-      by_age = c.requires.by_age;
-      taking = taking-first (view_of c.args.self.now) c.args.from c.args.until (all_arriving c.args.arriving) c.args.sent.now.items c.requires.at c.requires.order;
+      taken = up.taken;
+      left = up.left;
+      by_age = up.by_age;
+      taking = record {
+        sent = [];
+        behind = sym (append-nil c.args.sent.now.items);
+        taking = subst (λ n. HasTaken (view_of c.args.self.now) n c.args.until inbox up.taken (view_of c.take_while_stalled-rest.new.self) []) c.requires.at up.took;
+      };
     }
+
+pub take_while_stalled-rest-requires-clause-fit : goal.take_while_stalled-rest-requires-clause-fit
+take_while_stalled-rest-requires-clause-fit c = subst (λ n. CanRun (view_of c.args.self.now) n c.args.until (all_arriving c.args.arriving)) (sym c.requires.at) c.requires.fit
 
 pub advance-requires-clause-stands : goal.advance-requires-clause-stands
 advance-requires-clause-stands c =
