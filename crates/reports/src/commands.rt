@@ -10,7 +10,9 @@ ghost use Rattle.reports.specs.Tables.{AddsRows};
 ghost use Rattle.reports.specs.Commands.{header, kind_word, request_operands, operand_fields, command_fields, lines_text, commands_text};
 
 use crate::hundreds::Hundred;
-use crate::line::{Line, ROOM, put, put_byte, put_bytes, put_last_long, put_rank, put_word};
+use crate::line::{
+    Line, ROOM, put, put_byte, put_bytes, put_last_long, put_rank, put_small, put_word,
+};
 use crate::pieces::{MANY, MOST, TableLines, TableThreads, write_pieces, write_whole};
 use crate::table::{Loss, RowBuffer};
 use command_table::parts::{Operands, RowParts};
@@ -24,7 +26,6 @@ use std::io::Write;
 use std::thread::Threads;
 
 // The fields of a group and of a bank of it, by the number of the bank among those of four groups of four banks.
-#[inline(always)]
 fn bank_fields(number: u32) -> [u8; 4]
     requires { number < 16 }
     ensures { result ≡ decimal (number / 4) ++ comma ∷ decimal (number % 4) ++ comma ∷ [] }
@@ -61,6 +62,18 @@ fn put_bank(line: &mut Line, end: usize, bank: &BankId) -> usize
     if bank.group < 4 && bank.bank < 4 {
         return put_bytes(line, end, &bank_fields(4 * bank.group + bank.bank));
     }
+    put_great_bank(line, end, bank)
+}
+
+// The fields of a group and of a bank before the others, of which one has several digits, as none of a machine has.
+#[inline(never)]
+fn put_great_bank(line: &mut Line, end: usize, bank: &BankId) -> usize
+    requires { (42 ≤ end) × (end ≤ 256) }
+    ensures text { drop result line.new
+        ≡ decimal bank.now.group ++ comma ∷ decimal bank.now.bank ++ comma ∷ drop end line.old }
+    ensures low { end ≤ result + 42 }
+    ensures high { result < end }
+{
     let start = put(line, end, Some(u64::from(bank.bank)));
     put(line, start, Some(u64::from(bank.group)))
 }
@@ -80,7 +93,7 @@ fn put_request(
     ensures high { result ≤ 256 }
 {
     let start = put_last_long(line, source.entry);
-    let start = put(line, start, Some(u64::from(source.core)));
+    let start = put_small(line, start, u64::from(source.core));
     let start = put(line, start, column.map(u64::from));
     let start = put(line, start, row.map(u64::from));
     put_bank(line, start, bank)
@@ -125,7 +138,12 @@ fn put_three(line: &mut Line, end: usize, first: u8, second: u8, third: u8) -> u
 
 // The fields from that of the kind on.
 #[inline(always)]
-fn put_kind(line: &mut Line, ranks: u32, kind: Kind, operands: &Operands) -> usize
+fn put_kind<const WHOLE: bool>(
+    line: &mut Line,
+    ranks: u32,
+    kind: Kind,
+    operands: &Operands,
+) -> usize
     ensures text { let command = command_with kind operands.now in
         drop result line.new ≡ kind_word (kind_of command) ++ comma
         ∷ with_rank ranks (Some (rank_of command)) (fields_text (operand_fields command)) }
@@ -162,9 +180,10 @@ fn put_kind(line: &mut Line, ranks: u32, kind: Kind, operands: &Operands) -> usi
     }
 }
 
-// A row, whose fields are put together from the last to the first.
+// A row, whose fields are put together from the last to the first. It is compiled once for rows that are stored in few
+// bytes and once for those that are stored as they are (`WHOLE`), so that each is compiled into its caller.
 #[inline(always)]
-fn write_command<W: Write>(
+fn write_command<const WHOLE: bool, W: Write>(
     table: &mut RowBuffer,
     hundred: &mut Hundred,
     ranks: u32,
@@ -175,8 +194,8 @@ fn write_command<W: Write>(
         (row_text (command_fields ranks (row_of row.now))) }
 {
     let line = &mut table.line;
-    let start = put_kind(line, ranks, row.kind, &row.operands);
-    let start = put(line, start, Some(u64::from(row.channel)));
+    let start = put_kind::<WHOLE>(line, ranks, row.kind, &row.operands);
+    let start = put_small(line, start, u64::from(row.channel));
     let start = hundred.put_cycle(line, start, row.cycle);
     table.write_row(start, writer);
 }
@@ -193,7 +212,7 @@ fn write_whole_command<W: Write>(
     ensures { AddsRows W.contents writer.old table.old writer.new table.new
         (row_text (command_fields ranks row.now)) }
 {
-    write_command(table, hundred, ranks, &RowParts::of(*row), writer);
+    write_command::<true, W>(table, hundred, ranks, &RowParts::of(*row), writer);
 }
 
 // A row, as it is stored.
@@ -209,7 +228,9 @@ fn write_stored<W: Write>(
         (row_text (command_fields ranks (stored_row row.entry))) }
 {
     match row {
-        StoredRow::Compact(row) => write_command(table, hundred, ranks, &row.parts(), writer),
+        StoredRow::Compact(row) => {
+            write_command::<false, W>(table, hundred, ranks, &row.parts(), writer)
+        }
         StoredRow::Whole(row) => write_whole_command(table, hundred, ranks, row, writer),
     }
 }

@@ -106,7 +106,6 @@ pub(crate) fn put_last_wide(line: &mut Line, number: Option<u128>) -> usize
 }
 
 // The field of a digit.
-#[inline(always)]
 fn digit_field(digit: u64) -> [u8; 2]
     requires { digit < 10 }
     ensures { result ≡ decimal digit ++ comma ∷ [] }
@@ -125,9 +124,9 @@ fn digit_field(digit: u64) -> [u8; 2]
     }
 }
 
-// Puts a field before the others, at once where it has one digit, as the numbers of a table often do.
+/// Puts a field before the others, a number that has one digit in most rows.
 #[inline(always)]
-fn put_number(line: &mut Line, end: usize, number: u64) -> usize
+pub(crate) fn put_small(line: &mut Line, end: usize, number: u64) -> usize
     requires { (21 ≤ end) × (end ≤ 256) }
     ensures text { drop result line.new ≡ decimal number ++ comma ∷ drop end line.old }
     ensures low { end ≤ result + 21 }
@@ -136,6 +135,17 @@ fn put_number(line: &mut Line, end: usize, number: u64) -> usize
     if number < 10 {
         return put_bytes(line, end, &digit_field(number));
     }
+    put_great(line, end, number)
+}
+
+// Puts a field before the others, a number of several digits.
+#[inline(never)]
+fn put_great(line: &mut Line, end: usize, number: u64) -> usize
+    requires { (21 ≤ end) × (end ≤ 256) }
+    ensures text { drop result line.new ≡ decimal number ++ comma ∷ drop end line.old }
+    ensures low { end ≤ result + 21 }
+    ensures high { result < end }
+{
     let start = put_byte(line, end, b',');
     put_digits(line, start, number)
 }
@@ -148,9 +158,10 @@ pub(crate) fn put(line: &mut Line, end: usize, number: Option<u64>) -> usize
     ensures low { end ≤ result + 21 }
     ensures high { result < end }
 {
+    let start = put_byte(line, end, b',');
     match number {
-        Some(number) => put_number(line, end, number),
-        None => put_byte(line, end, b','),
+        Some(number) => put_digits(line, start, number),
+        None => start,
     }
 }
 
