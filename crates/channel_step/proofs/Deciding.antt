@@ -1,8 +1,7 @@
 -- What a channel decides in a cycle.
-use Rattle.std.proofs.Common.{List, ◌≡◌, ℕ, ◌+◌, ◌-◌, ◌<◌, ◌≤◌, true, ◌++◌, length, Option, Some, None, refl, sym, ap, ap₂, subst, ◌∙◌, arith}
-use Rattle.std.specs.Prelude.{replicate, is_some}
+use Rattle.std.proofs.Common.{List, ◌≡◌, ℕ, ◌+◌, ◌-◌, ◌<◌, ◌≤◌, ◌++◌, length, None, sym, ap, ap₂, subst, ◌∙◌, arith}
+use Rattle.std.specs.Prelude.{replicate}
 use Rattle.std.specs.List.{All}
-use Rattle.std.proofs.lemmas.Bool.{false≢true}
 use Rattle.sim_base.specs.declared.config.Config.{Config}
 use Rattle.sim_base.specs.Scheduling.{drains_with, drains_before, candidates, choice_between, choice, lowest_due}
 use Rattle.bank_ready.specs.Stands.{rank_count, StandsFor as BanksStandFor}
@@ -17,6 +16,7 @@ use Rattle.channel_step.specs.Past.{Past, commands_after}
 use Rattle.channel_step.specs.Fit.{IsIdle}
 use Rattle.channel_step.specs.Channels.{IsMadeFor, IsInCycle, IsInSomeCycle, IsNeededIn, PartsStand, CandidatesStand}
 use Rattle.channel_step.specs.declared.channel.Channel.{Channel}
+use Rattle.channel_step.proofs.Foreseen.{some-is}
 use Rattle.channel_step.proofs.Spans.{drains-next}
 use Rattle.channel_step.proofs.Requests.{requests-arrived}
 use Rattle.channel_step.proofs.Stretches.{drains-twice, idle-choice}
@@ -69,10 +69,6 @@ none-before c past now end h at none k l =
     ap (λ n. choice past.config past.channel (past.steps ++ replicate n None) past.mail) (sym then)
     ∙ sym (cycle-later c past (length past.steps + k) h (omega arith))
     ∙ none (length past.steps + k) (omega arith) (omega arith)
-
-some-is : {X : Type 0} (o : Option X) → is_some o ≡ true → (x : X) × (o ≡ Some x)
-some-is None e = absurd (false≢true e)
-some-is (Some x) e = (x, refl)
 
 -- what is chosen next for the queue needs the next command of the channel
 pub found-before : (c : Channel) (past : Past) (now end cycle : ℕ) (chosen : Need) → IsInCycle c past

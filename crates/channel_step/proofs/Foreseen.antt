@@ -1,15 +1,16 @@
 -- What a channel knows of its next command, as cycles pass.
-use Rattle.std.proofs.Common.{◌≡◌, ℕ, zero, suc, ◌<◌, ◌≤◌, true, List, [], ◌∷◌, length, take, Option, Some, None, refl, sym, ap, subst, ◌∙◌, arith}
-use Rattle.std.specs.Prelude.{IfSome, option_map, slice_get}
+use Rattle.std.proofs.Common.{◌≡◌, ℕ, zero, suc, ◌<◌, ◌≤◌, Bool, true, false, List, [], ◌∷◌, length, take, Option, Some, None, refl, sym, ap, subst, ◌∙◌, arith}
+use Rattle.std.specs.Prelude.{IfSome, is_some, option_and_then, slice_get}
+use Rattle.std.proofs.lemmas.Bool.{false≢true}
 use Rattle.sim_base.specs.declared.config.Config.{Config}
-use Rattle.sim_base.specs.Scheduling.{candidates, choice_between, lowest_due, needed, refresh_command}
+use Rattle.sim_base.specs.Scheduling.{candidates, choice_between, is_column_command, lowest_due, needed}
 use Rattle.sim_base.specs.declared.command.Command.{Command}
 use Rattle.sim_base.specs.declared.command.IssuedCommand.{IssuedCommand}
 use Rattle.queue.specs.declared.request_log.Arrived.{Arrived}
 use Rattle.queue.specs.Log.{waiting_requests, all_requests, waits_at}
 use Rattle.queue.specs.View.{QueueView, is_draining}
 use Rattle.channel_step.specs.FrFcfs.Arrivals.{KeepsNext}
-use Rattle.channel_step.specs.FrFcfs.Choices.{choice_in, command_of, IsFor}
+use Rattle.channel_step.specs.FrFcfs.Choices.{choice_in, command_of, needed_if, IsFor}
 use Rattle.channel_step.specs.Past.{Past, commands_after}
 use Rattle.channel_step.specs.Queued.{request_at, drain_decided}
 use Rattle.channel_step.specs.FrFcfs.Cycles.{IsNext}
@@ -19,6 +20,7 @@ use Rattle.channel_step.specs.Channels.{IsNextCommand, IsNextCommandAt, IsForese
 use Rattle.channel_step.specs.declared.channel.Channel.{Channel}
 use Rattle.channel_step.specs.declared.next_command.NextCommand.{NextCommand}
 use Rattle.channel_step.specs.declared.next_command.NextCommand.TheVariants.{Unknown, Known}
+use Rattle.channel_step.proofs.FrFcfs.Legal.{needs_if}
 use Rattle.channel_step.proofs.Stretches.{settled_twice}
 
 -- what is foreseen, by cases
@@ -37,7 +39,7 @@ next_command-later : (s : Config) (history : List IssuedCommand) (queue : QueueV
 next_command-later s history queue from later Unknown l h = tt
 next_command-later s history queue from later (Known None) l h = λ t m. h t (omega arith)
 next_command-later s history queue from later (Known (Some next)) l h =
-    record { then_is = h.then_is; none_before = λ t m k. h.none_before t (omega arith) k; place = h.place }
+    record { then_is = h.then_is; there_is = h.there_is; none_before = λ t m k. h.none_before t (omega arith) k; place = h.place }
 
 -- a queue that is decided drains as before
 pub drain_decided-same : (queue : QueueView) → is_draining queue ≡ is_draining (drain_decided queue)
@@ -53,6 +55,7 @@ next_command-drain_decided s history queue from Unknown h = tt
 next_command-drain_decided s history queue from (Known None) h = λ t m. choice-drain_decided s history queue t ∙ h t m
 next_command-drain_decided s history queue from (Known (Some next)) h = record {
   then_is = choice-drain_decided s history queue next.0 ∙ h.then_is;
+  there_is = h.there_is;
   none_before = λ t m k. choice-drain_decided s history queue t ∙ h.none_before t m k;
   place = h.place;
 }
@@ -61,7 +64,7 @@ next_command-drain_decided s history queue from (Known (Some next)) h = record {
 found-next_command : (s : Config) (history : List IssuedCommand) (queue : QueueView) (now : ℕ) (next : Option (ℕ × Need)) → IsNext (choice_in s history queue) (command_of s history queue.log) now next
     → IfSome next (λ n. IsFor s.ranks queue.log n.1) → IsNextCommand s history queue now (Known next)
 found-next_command s history queue now None h place = h
-found-next_command s history queue now (Some next) h place = record { then_is = h.then_is; none_before = h.none_before; place = place }
+found-next_command s history queue now (Some next) h place = record { then_is = h.then_is; there_is = h.there_is; none_before = h.none_before; place = place }
 
 pub kept-in_cycle : (c : Channel) (past : Past) (now : ℕ) (next : Option (ℕ × Need)) → IsInCycle c past → now ≡ c.cycle
     → IsFound c past.config (commands_after past) now next → IsInCycle (record c { next_command = Known next }) past
@@ -132,6 +135,10 @@ pub foreseen-drain_decided : (s : Config) (history : List IssuedCommand) (queue 
 foreseen-drain_decided s history queue from next_command h =
     foreseen-from s history (drain_decided queue) from next_command (next_command-drain_decided s history queue from next_command (next_command-from s history queue from next_command h))
 
+pub some-is : {X : Type 0} (o : Option X) → is_some o ≡ true → (x : X) × (o ≡ Some x)
+some-is None e = absurd (false≢true e)
+some-is (Some x) e = (x, refl)
+
 -- a place among the first requests is one among all
 taken-place : (n place : ℕ) (log : List Arrived) → place < length (take n log) → waits_at (take n log) place ≡ true
     → (place < length log) × (waits_at log place ≡ true) × (slice_get (all_requests (take n log)) place ≡ slice_get (all_requests log) place)
@@ -140,33 +147,42 @@ taken-place (suc n) place [] l w = absurd (omega arith)
 taken-place (suc n) zero (a ∷ log) l w = (omega arith, w, refl)
 taken-place (suc n) (suc place) (a ∷ log) l w = let rest = taken-place n place log (omega arith) w in (omega (arith, rest.0), rest.1, rest.2)
 
--- what needs a command among the first requests of a log is there among all, and needs the same
-pub taken-for : (n ranks : ℕ) (log earlier : List Arrived) (need : Need) → earlier ≡ take n log → IsFor ranks earlier need → IsFor ranks log need
-taken-for n ranks log earlier (Needs.Request place) is h =
+taken-waits : (n place : ℕ) (log earlier : List Arrived) → earlier ≡ take n log → (place < length earlier) × (waits_at earlier place ≡ true) → (place < length log) × (waits_at log place ≡ true)
+taken-waits n place log earlier is h =
     let k = subst (λ x. (place < length x) × (waits_at x place ≡ true)) is h in
     let there = taken-place n place log k.0 k.1 in
     (there.0, there.1)
+
+-- what needs a command among the first requests of a log is there among all, and needs the same
+pub taken-for : (n ranks : ℕ) (log earlier : List Arrived) (need : Need) → earlier ≡ take n log → IsFor ranks earlier need → IsFor ranks log need
+taken-for n ranks log earlier (Needs.Row place) is h = taken-waits n place log earlier is h
+taken-for n ranks log earlier (Needs.Column place) is h = taken-waits n place log earlier is h
 taken-for n ranks log earlier (Needs.Refresh rank) is h = h
+
+taken-needed : (history : List IssuedCommand) (n place : ℕ) (log earlier : List Arrived) (column : Bool) → earlier ≡ take n log → (place < length earlier) × (waits_at earlier place ≡ true)
+    → option_and_then (needed_if column history) (slice_get (all_requests earlier) place) ≡ option_and_then (needed_if column history) (slice_get (all_requests log) place)
+taken-needed history n place log earlier column is h =
+    let k = subst (λ x. (place < length x) × (waits_at x place ≡ true)) is h in
+    ap (λ x. option_and_then (needed_if column history) (slice_get (all_requests x) place)) is
+    ∙ ap (option_and_then (needed_if column history)) (taken-place n place log k.0 k.1).2
 
 taken-command : (s : Config) (history : List IssuedCommand) (n : ℕ) (log earlier : List Arrived) (need : Need) → earlier ≡ take n log → IsFor s.ranks earlier need
     → command_of s history earlier need ≡ command_of s history log need
-taken-command s history n log earlier (Needs.Request place) is h =
-    let k = subst (λ x. (place < length x) × (waits_at x place ≡ true)) is h in
-    ap (λ x. option_map (needed history) (slice_get (all_requests x) place)) is ∙ ap (option_map (needed history)) (taken-place n place log k.0 k.1).2
+taken-command s history n log earlier (Needs.Row place) is h = taken-needed history n place log earlier false is h
+taken-command s history n log earlier (Needs.Column place) is h = taken-needed history n place log earlier true is h
 taken-command s history n log earlier (Needs.Refresh rank) is h = refl
 
-request-some : (place : ℕ) (log : List Arrived) → place < length log → slice_get (all_requests log) place ≡ Some (request_at log place)
+pub request-some : (place : ℕ) (log : List Arrived) → place < length log → slice_get (all_requests log) place ≡ Some (request_at log place)
 request-some place [] l = absurd (omega arith)
 request-some zero (a ∷ log) l = refl
 request-some (suc place) (a ∷ log) l = request-some place log (omega arith)
 
--- what a need asks for
-pub needs : (s : Config) (history : List IssuedCommand) (log : List Arrived) (need : Need) → IsFor s.ranks log need → (command : Command) × (command_of s history log need ≡ Some command)
-needs s history log (Needs.Request place) h = (needed history (request_at log place), ap (option_map (needed history)) (request-some place log h.0))
-needs s history log (Needs.Refresh rank) h = (refresh_command s history rank, refl)
-
-pub request-needs : (s : Config) (history : List IssuedCommand) (log : List Arrived) (place : ℕ) → place < length log → command_of s history log (Needs.Request place) ≡ Some (needed history (request_at log place))
-request-needs s history log place l = ap (option_map (needed history)) (request-some place log l)
+-- what is asked for a request is what it needs, a column command or none
+pub request-needs : (history : List IssuedCommand) (log : List Arrived) (place : ℕ) (column : Bool) (command : Command) → place < length log
+    → option_and_then (needed_if column history) (slice_get (all_requests log) place) ≡ Some command
+    → (needed history (request_at log place) ≡ command) × (is_column_command (needed history (request_at log place)) ≡ column)
+request-needs history log place column command l is =
+    needs_if column history (request_at log place) command (sym (ap (option_and_then (needed_if column history)) (request-some place log l)) ∙ is)
 
 -- What was found is so still where what is next stays so with the requests that follow.
 pub next_command-kept : (s : Config) (history : List IssuedCommand) (earlier queue : QueueView) (n from cycle : ℕ) (need : Need) → earlier.log ≡ take n queue.log
@@ -174,10 +190,13 @@ pub next_command-kept : (s : Config) (history : List IssuedCommand) (earlier que
     → IsNextCommandAt s history earlier from cycle need → IsNextCommandAt s history queue from cycle need
 next_command-kept s history earlier queue n from cycle need is keeps h =
     let place = taken-for n s.ranks queue.log earlier.log need is h.place in
-    let asked = needs s history queue.log need place in
+    let same = taken-command s history n queue.log earlier.log need is h.place in
+    let there = sym (ap is_some same) ∙ h.there_is in
+    let asked = some-is (command_of s history queue.log need) there in
     let k = keeps asked.0 asked.1 in
     record {
-      then_is = k.then_is (h.then_is ∙ taken-command s history n queue.log earlier.log need is h.place ∙ asked.1) ∙ sym asked.1;
+      then_is = k.then_is (h.then_is ∙ same ∙ asked.1) ∙ sym asked.1;
+      there_is = there;
       none_before = λ t late early. k.none_before t early (h.none_before t late early);
       place = place;
     }

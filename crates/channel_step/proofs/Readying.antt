@@ -1,25 +1,26 @@
 -- How a channel is readied for a command: what the command does to its log, its candidates and the requests that it
 -- keeps.
 use Rattle.std.proofs.Common.{◌≡◌, ℕ, ◌+◌, ◌<◌, true, false, cond, eqb, get_or, List, [], ◌∷◌, ◌++◌, length, Option, Some, None, refl, sym, ap, ap₂, subst, ◌∙◌, arith}
-use Rattle.std.specs.Prelude.{not, Vec}
+use Rattle.std.specs.Prelude.{Bool, not, option_and_then, slice_get, Vec}
 use Rattle.std.specs.declared.alloc.Global.{Global}
 use Rattle.std.specs.List.{All, AllByRecursion as Each}
-use Rattle.std.proofs.lemmas.Bool.{cond-true, cond-false, eq-eqb, ne_eqb}
+use Rattle.std.proofs.lemmas.Bool.{cond-true, cond-false, eq-eqb, false≢true, ne_eqb}
 use Rattle.sim_base.specs.declared.config.Config.{Config}
 use Rattle.sim_base.specs.Counts.{is_hit}
-use Rattle.sim_base.specs.History.{issued_commands}
 use Rattle.sim_base.specs.Places.{bank_in, bank_at, number_of_bank}
 use Rattle.sim_base.specs.Rules.{row_after, open_row}
-use Rattle.sim_base.specs.Scheduling.{choice, source_of, column_command, is_column_command, needed, needed_at}
+use Rattle.sim_base.specs.Scheduling.{source_of, column_command, column_command_to, is_column_command, needed, needed_at}
 use Rattle.sim_base.specs.declared.command.Command.{Command}
 use Rattle.sim_base.specs.declared.command.Command.TheVariants.{Pre, Prea, Ref}
 use Rattle.sim_base.specs.declared.command.IssuedCommand.{IssuedCommand}
+use Rattle.sim_base.specs.declared.message.Access.{Access}
+use Rattle.sim_base.specs.declared.message.Access.TheVariants as Accesses
 use Rattle.sim_base.specs.declared.message.Request.{Request}
 use Rattle.sim_base.specs.declared.place.BankId.{BankId}
 use Rattle.bank_ready.specs.Stands.{rank_count, followed_by, StandsFor as BanksStandFor}
 use Rattle.bank_ready.specs.declared.banks.Banks.{Banks}
 use Rattle.queue.specs.declared.request_log.Arrived.{Arrived}
-use Rattle.queue.specs.Log.{absent, waiting_requests, served_at, activated_at, waits_at}
+use Rattle.queue.specs.Log.{absent, all_requests, waiting_requests, served_at, activated_at, waits_at}
 use Rattle.queue.proofs.Activated.{all_activated, waiting_activated}
 use Rattle.queue.proofs.Places.{all_served}
 use Rattle.queue.specs.declared.bank_candidates.all_banks.BankCandidates.{BankCandidates}
@@ -29,17 +30,18 @@ use Rattle.sim_base.proofs.Banks.{number_names_bank}
 use Rattle.queue.proofs.Waits.{request_at as placed_at}
 use Rattle.request_table.specs.declared.served_requests.ServedRequest.{ServedRequest}
 use Rattle.statistics.specs.Channels.{issues_hit}
+use Rattle.channel_step.specs.FrFcfs.Choices.{needed_if}
 use Rattle.channel_step.specs.FrFcfs.Requests.{IsInBanks, KnowsRows}
 use Rattle.channel_step.specs.Past.{has_act, Past, commands_after, choice_after}
 use Rattle.channel_step.specs.Stands.{activated_of}
 use Rattle.channel_step.specs.Queued.{request_at, served_now, kept_rows}
 use Rattle.channel_step.specs.Runs.{with_more}
-use Rattle.channel_step.specs.Channels.{CandidatesStand, IsNeededIn}
-use Rattle.channel_step.specs.Readied.{ActsFor, IsDoing, ServesAfter, HasCounted, as_issued, commands_with, IsReadied}
-use Rattle.channel_step.specs.declared.fr_fcfs.choice.Need.TheVariants as Needs
+use Rattle.channel_step.specs.Channels.{CandidatesStand, IsNextIn}
+use Rattle.channel_step.specs.Readied.{IsDoing, ServesAfter, HasCounted, as_issued, commands_with, IsReadied}
 use Rattle.channel_step.specs.declared.channel.Channel.{Channel}
 use Rattle.channel_step.proofs.Cycle.{joined-differ}
 use Rattle.channel_step.proofs.Foreseen.{request-needs}
+use Rattle.channel_step.proofs.FrFcfs.Legal.{column_needed}
 use Rattle.channel_step.proofs.Issuing.{readied, late-none, issued-before}
 use Rattle.channel_step.proofs.Leaving.{at-waiting, served-waits, served-marks, mark-at, activated-marks}
 use Rattle.channel_step.proofs.Marks.{column_either, opens_none, marks-act, marks-no_act, served-none, hit-mark, column-opens_none}
@@ -196,29 +198,41 @@ needed-closing history r row e other = needed-with history r (Some row) e ∙ co
 pub needed-moving : (history : List IssuedCommand) (r : Request) (row : ℕ) → Some row ≡ open_row (bank_in r.place) history → row ≡ r.place.row → needed history r ≡ column_command r
 needed-moving history r row e same = needed-with history r (Some row) e ∙ cond-true (eqb row r.place.row) (column_command r) (Pre (bank_in r.place) (source_of r)) (eq-eqb row r.place.row same)
 
--- what was chosen is what the request at a place needs
-pub chosen-needs : (c : Channel) (place : ℕ) (p : ActsFor c (Needs.Request place)) → Some (needed (issued_commands p.past.channel p.past.steps) (request_at c.queue.log place)) ≡ choice p.past.config p.past.channel p.past.steps p.past.mail
-chosen-needs c place p = sym (request-needs p.past.config (issued_commands p.past.channel p.past.steps) c.queue.log place p.place.0) ∙ p.needed ∙ p.is_chosen
+-- what was chosen is what the request at a place needs, a column command or none
+pub chosen-needs : (past : Past) (log : List Arrived) (place : ℕ) (column : Bool) (command : Command) → place < length log
+    → option_and_then (needed_if column (commands_after past)) (slice_get (all_requests log) place) ≡ Some command → Some command ≡ choice_after past
+    → Some (needed (commands_after past) (request_at log place)) ≡ choice_after past
+chosen-needs past log place column command l asked chosen = ap Some (request-needs (commands_after past) log place column command l asked).0 ∙ chosen
 
-pub doing : (c : Channel) (place : ℕ) (command : Command) (p : ActsFor c (Needs.Request place)) → needed (issued_commands p.past.channel p.past.steps) (request_at c.queue.log place) ≡ command → IsDoing c place command
-doing c place command p e = record {
-  past = p.past;
-  is_in = p.is_in;
-  within = p.place.0;
-  waits = p.place.1;
-  is_chosen = ap Some (sym e) ∙ chosen-needs c place p;
+pub doing : (c : Channel) (place : ℕ) (column : Bool) (past : Past) (command : Command) → HasCounted c past → (place < length c.queue.log) × (waits_at c.queue.log place ≡ true)
+    → option_and_then (needed_if column (commands_after past)) (slice_get (all_requests c.queue.log) place) ≡ Some command → Some command ≡ choice_after past
+    → IsDoing c place (needed (commands_after past) (request_at c.queue.log place))
+doing c place column past command is_in there asked chosen = record {
+  past = past;
+  is_in = is_in;
+  within = there.0;
+  waits = there.1;
+  is_chosen = chosen-needs past c.queue.log place column command there.0 asked chosen;
 }
-
--- what the next command is for is what the request at a place needs
-pub need-is : (past : Past) (log : List Arrived) (end cycle place : ℕ) (i : IsNeededIn past log end cycle (Needs.Request place)) → needed (commands_after past) (request_at log place) ≡ i.command
-need-is past log end cycle place i =
-    let is : Some (needed (commands_after past) (request_at log place)) ≡ Some i.command = sym (request-needs past.config (commands_after past) log place i.place.0) ∙ i.needed in
-    cc
 
 -- where the next command is for a request, a request's is issued in its cycle
-pub serves-after : (past : Past) (log : List Arrived) (end cycle place : ℕ) → IsNeededIn past log end cycle (Needs.Request place) → ServesAfter past cycle
-serves-after past log end cycle place i = record {
+pub serves-after : (past : Past) (log : List Arrived) (end cycle place : ℕ) (column : Bool) (command : Command) → place < length log
+    → option_and_then (needed_if column (commands_after past)) (slice_get (all_requests log) place) ≡ Some command → IsNextIn past end cycle command → ServesAfter past cycle
+serves-after past log end cycle place column command l asked next = record {
   request = request_at log place;
-  from_now = i.is_next.from_now;
-  is_chosen = ap Some (need-is past log end cycle place i) ∙ i.is_next.command_is;
+  from_now = next.from_now;
+  is_chosen = ap Some (request-needs (commands_after past) log place column command l asked).0 ∙ next.command_is;
 }
+
+-- where a request needs its column command
+pub needed-column : (history : List IssuedCommand) (r : Request) → is_column_command (needed history r) ≡ true → needed history r ≡ column_command r
+unfolding needed
+needed-column history r column = column_needed (open_row (bank_in r.place) history) r column
+
+-- where a request needs no column command, another row of its bank is open, or none
+pub row-differs : (history : List IssuedCommand) (r : Request) (row : ℕ) → Some row ≡ open_row (bank_in r.place) history → is_column_command (needed history r) ≡ false → row ≡ r.place.row → ⊥
+row-differs history r row e none same = false≢true (sym none ∙ ap is_column_command (needed-moving history r row e same) ∙ column-any r.access r)
+  where
+    column-any : (access : Access) (r : Request) → is_column_command (column_command_to access (bank_in r.place) r.place.row r.place.column (source_of r)) ≡ true
+    column-any Accesses.Read r = refl
+    column-any Accesses.Write r = refl

@@ -28,7 +28,7 @@
 --     idle_cycle c now      the statistics of a cycle in which a channel issues nothing
 --     skipped c until      the statistics of a channel after cycles in which it issues nothing
 --     counted_through c cycle      a channel in a cycle that is counted, as are those before it
-use Rattle.std.specs.Prelude.{◌≡◌, ℕ, ◌+◌, ◌-◌, ◌*◌, ◌<◌, ◌≤◌, Bool, false, List, take, length, is_some, nat_lt, Option, Some, None, IfSome, All, Vec}
+use Rattle.std.specs.Prelude.{◌≡◌, ℕ, ◌+◌, ◌-◌, ◌*◌, ◌<◌, ◌≤◌, Bool, true, false, List, take, length, is_some, nat_lt, Option, Some, None, IfSome, All, Vec}
 use Rattle.std.specs.List.{AllByRecursion as Each}
 use Rattle.std.specs.declared.alloc.Global.{Global}
 use Rattle.sim_base.specs.declared.config.Config.{Config}
@@ -95,6 +95,7 @@ NoneIsIssued s history queue from end = (t : ℕ) → from ≤ t → t < end →
 pub record IsNextCommandAt (s : Config) (history : List IssuedCommand) (queue : QueueView) (from cycle : ℕ)
     (need : Need) : Type 0 where
   pub then_is : choice_in s history queue cycle ≡ command_of s history queue.log need
+  pub there_is : is_some (command_of s history queue.log need) ≡ true
   pub none_before : NoneIsIssued s history queue from cycle
   pub place : IsFor s.ranks queue.log need
 

@@ -8,14 +8,14 @@
 --     request_of c place      the request at a place of a channel's log
 --     column_command_at c place      the column command of the request at a place
 --     opening_command c place, closing_command c place      the ACT that the request at a place needs, and the PRE
---     command_needed c history place      what the request at a place needs after these commands
+--     command_for c p need      the command that a need asks for after a past
 --     rank_command p rank      what a rank needs that is to be refreshed
 --     as_issued channel now command      a command of a cycle, as it was issued
 --     commands_with p command      the commands of a past, and one in the cycle after it
 --     IsReadied c p command hit      a channel is as after a command, which it has still to count
 --     HasReadied old new command hit      a channel is readied for a command, wherever it issues that
 --     IsReadiedInSomePast c command hit      a channel is readied, after some past
-use Rattle.std.specs.Prelude.{◌≡◌, ℕ, ◌+◌, ◌<◌, ◌≤◌, Bool, true, List, length, Some, None}
+use Rattle.std.specs.Prelude.{◌≡◌, ℕ, ◌+◌, ◌<◌, ◌≤◌, Bool, true, List, length, Option, Some, None}
 use Rattle.std.specs.List.{AllByRecursion as Each}
 use Rattle.sim_base.specs.Scheduling.{drains, queued_requests, source_of, column_command, needed_at, needed, refresh_command, queue_room}
 use Rattle.sim_base.specs.Places.{bank_in}
@@ -104,9 +104,9 @@ opening_command c place = needed_at None (request_of c place)
 abbrev pub closing_command : Channel → ℕ → Command
 closing_command c place = Pre (bank_in (request_of c place).place) (source_of (request_of c place))
 
--- the command that the request at a place of the log needs after these commands
-abbrev pub command_needed : Channel → List IssuedCommand → ℕ → Command
-command_needed c history place = needed history (request_of c place)
+-- the command that a need asks for after a past
+abbrev pub command_for : Channel → Past → Need → Option Command
+command_for c p need = command_of p.config (commands_after p) c.queue.log need
 
 -- what a rank needs that is to be refreshed, after a past
 abbrev pub rank_command : Past → ℕ → Command

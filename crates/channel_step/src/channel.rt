@@ -24,7 +24,7 @@ ghost use Rattle.channel_step.specs.Channels.{IsNextCommand, NextCommandIsFor, I
 ghost use Rattle.channel_step.specs.Channels.{IsInCycle, ForCycles, IsInSomeCycle, StaysInCycle, IsNextBefore, idle_after};
 ghost use Rattle.channel_step.specs.Channels.{CountsDrains, counted, after_cycle, skipped, counted_through};
 ghost use Rattle.channel_step.specs.Readied.{IsChosen, ActsFor, IsDoing, HasCounted, ForCounted, IsReadied, IsReadiedInSomePast, HasReadied, ServesIn, ServesAfter};
-ghost use Rattle.channel_step.specs.Readied.{request_of, opening_command, closing_command, column_command_at, command_needed, rank_command};
+ghost use Rattle.channel_step.specs.Readied.{request_of, opening_command, closing_command, column_command_at, command_for, rank_command};
 ghost use Rattle.channel_step.specs.Fit.{IsFitAfter};
 ghost use Rattle.channel_step.specs.Runs.{CanStep, CanRun, ForSpan, IssuesIfNext, HasAdvanced, IsDoneAfter, StandsAt, first_arrival_or, IsListed};
 
@@ -77,6 +77,16 @@ pub struct Channel {
 struct Advance {
     arrived: usize,
     last: Cycle,
+}
+
+impl Advance {
+    /// So many messages arrived, and the cycles up to this one are over.
+    #[inline(always)]
+    fn up_to(arrived: usize, last: Cycle) -> Advance
+        ensures { result ≡ record { arrived = arrived; last = last } }
+    {
+        Advance { arrived, last }
+    }
 }
 
 impl Channel {
@@ -551,32 +561,31 @@ impl Channel {
         send(&sender, &request, messages)
     }
 
-    /// Issues what the request at a place needs, in a cycle that is counted: an ACT where no row of its bank is open, a
-    /// PRE where another one is, and else its column command. On an error some of it may not be done.
+    /// Issues the ACT or the PRE that the request at a place needs, in a cycle that is counted: an ACT where no row of
+    /// its bank is open, and else a PRE. On an error some of it may not be done.
     #[inline(always)]
-    fn issue_for(
+    fn issue_row_command(
         &mut self,
         place: usize,
         commands: &mut Option<CommandList>,
-        messages: &mut Vec<Message>,
     ) -> Result<(), AllocError>
-        requires acts { ActsFor self.old (Needs.Request place) }
+        requires acts { ActsFor self.old (Needs.Row place) }
         requires early { self.old.cycle < 2 ^ 62 }
-        ensures { ForCounted self.old (λ past. IssuesIfNext result self.new past
-            (command_needed self.old (commands_after past) place)
-            commands.old commands.new messages.old.items messages.new.items) }
+        ensures { ForCounted self.old (λ past. (command : Command) (messages : List Message)
+            → command_for self.old past (Needs.Row place) ≡ Some command
+            → IssuesIfNext result self.new past command
+            commands.old commands.new messages messages) }
     {
-        let asked = self.queue.log().log()[place].request.place;
-        match self.bank_candidates.open_row(asked.bank_id()) {
+        let bank = self.queue.log().log()[place].request.place.bank_id();
+        match self.bank_candidates.open_row(bank) {
             None => {
                 let command = self.open_bank(place);
                 self.issue(command, false, commands)
             }
-            Some(row) if row != asked.row => {
+            Some(_) => {
                 let command = self.close_bank(place);
                 self.issue(command, false, commands)
             }
-            Some(_) => self.issue_column_command(place, commands, messages),
         }
     }
 
@@ -709,28 +718,24 @@ impl Channel {
         let arrived = self.arrive(inbox, now);
         let end = next_arrival(&inbox[arrived..], cycles.end);
         match self.look(now, end) {
-            Some((cycle, Need::Request(place))) => {
+            Some((cycle, Need::Column(place))) => {
                 self.pass(cycle);
-                self.issue_for(place as usize, commands, messages)?;
-                Ok(Advance {
-                    arrived,
-                    last: cycle,
-                })
+                self.issue_column_command(place as usize, commands, messages)?;
+                Ok(Advance::up_to(arrived, cycle))
+            }
+            Some((cycle, Need::Row(place))) => {
+                self.pass(cycle);
+                self.issue_row_command(place as usize, commands)?;
+                Ok(Advance::up_to(arrived, cycle))
             }
             Some((cycle, Need::Refresh(rank))) => {
                 self.wait(cycle);
                 self.refresh_rank(rank, commands)?;
-                Ok(Advance {
-                    arrived,
-                    last: cycle,
-                })
+                Ok(Advance::up_to(arrived, cycle))
             }
             None => {
                 self.wait(end);
-                Ok(Advance {
-                    arrived,
-                    last: end - 1,
-                })
+                Ok(Advance::up_to(arrived, end - 1))
             }
         }
     }

@@ -66,21 +66,16 @@ fn shares_and_steps(rt: HostRuntime) {
 }
 
 // The label of a tick, and how far it is from the begin of its axis; and the entry of a legend.
-const PUT: &str = r#"<i class="y" style="bottom:41.67%"><b>1.0</b></i>
-
-<i class="y" style="bottom:25.00%"><b>20</b></i>
-
-<i class="y" style="bottom:75.00%"><b>15</b></i>
-
-<i class="x" style="left:0.00%"><b>0</b></i>
-
-<i class="x" style="left:40.00%"><b>1,000k</b></i>
-
-<i class="x" style="left:100.00%"><b>2,500k</b></i>
-
-<i class="x" style="left:50.00%"><b>1,200</b></i>
-
-<rect class="act" width="10" height="10"/></svg>ACT</li></ul>"#;
+const PUT: &[&str] = &[
+    r#"<i class="y" style="bottom:41.67%"><b>1.0</b></i>"#,
+    r#"<i class="y" style="bottom:25.00%"><b>20</b></i>"#,
+    r#"<i class="y" style="bottom:75.00%"><b>15</b></i>"#,
+    r#"<i class="x" style="left:0.00%"><b>0</b></i>"#,
+    r#"<i class="x" style="left:40.00%"><b>1,000k</b></i>"#,
+    r#"<i class="x" style="left:100.00%"><b>2,500k</b></i>"#,
+    r#"<i class="x" style="left:50.00%"><b>1,200</b></i>"#,
+    r#"<rect class="act" width="10" height="10"/></svg>ACT</li></ul>"#,
+];
 
 #[test]
 fn ticks_have_one_unit(rt: HostRuntime) {

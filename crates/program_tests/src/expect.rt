@@ -1,6 +1,6 @@
 //! Assertions as calls, which cost the proof of a test far less than what the macros write in its place.
 
-ghost use Rattle.std.specs.Prelude.{◌≡◌, ◌↔◌, true};
+ghost use Rattle.std.specs.Prelude.{◌≡◌, ◌↔◌, true, All};
 ghost use Rattle.std.specs.Str.Iter.{HasSubslice};
 
 use std::fmt::Debug;
@@ -28,12 +28,11 @@ fn expect_part(rt: &impl Abort, text: &str, part: &str, is_there: bool)
     expect_at(rt, &part, &text.contains(part), &is_there);
 }
 
-/// Does so for each of some parts of a text, with a blank line between two of them. Which parts these are is std's
-/// (`split`), and in no contract here.
-pub fn expect_parts(rt: &impl Abort, text: &str, parts: &str, are_there: bool) {
-    for part in parts.split("\n\n") {
-        if !part.is_empty() {
-            expect_part(rt, text, part, are_there);
-        }
+/// Does so for each of some parts of a text.
+pub fn expect_parts(rt: &impl Abort, text: &str, parts: &[&str], are_there: bool)
+    ensures { All (λ part. are_there ≡ true ↔ HasSubslice text.now part.now) parts.now }
+{
+    for part in parts {
+        expect_part(rt, text, part, are_there);
     }
 }

@@ -134,8 +134,8 @@ fn page_of(rt: &impl Abort, alloc: Global, shown: &Shown<'_>) -> (Vec<u8>, Resul
     (page, ended)
 }
 
-/// Parts that a page has, and others that it has not, with a blank line between two.
-pub(crate) type Parts<'x> = (&'x str, &'x str);
+/// Parts that a page has, and others that it has not.
+pub(crate) type Parts<'x> = (&'x [&'x str], &'x [&'x str]);
 
 /// Asserts what the page of a run has.
 pub(crate) fn assert_page(

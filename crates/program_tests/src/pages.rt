@@ -44,52 +44,34 @@ fn assert_case(
 // 1,235 entries in 1,000 cycles, and in the 800 up to the finish; halves are rounded up. The RD takes four of the five
 // cycles of the step from cycle 25 on, so the axis ends at 80 %.
 const READ: Parts<'static> = (
-    r#"<title>dramsim run</title>
-
-<b>1,000</b> cycles, <b>1</b> core, <b>1</b> channel, <b>3</b> commands
-
-<th scope="row">0</th><td>1</td><td>0</td><td>0.0</td><td>0.4</td><td>0.04</td><td>1</td><td>96.0</td><td>0.0</td><td>–</td></tr>
-
-<th scope="row">0</th><td>1,235</td><td>1.24</td><td>799</td><td>1.54</td><td>1</td><td>50.0</td><td>90.0</td><td>5.0</td><td>2.5</td><td>2.0</td><td>0.5</td></tr>
-
-<rect class="credit" x="0" width="5" height="1"><title>credit: 0.5 %</title></rect>
-
-<rect class="window" x="5" width="25" height="1">
-
-H25V0H30V800H35
-
-<path class="line hits" d="M25 10V10H30"/>
-
-<i class="lane" style="top:0px"><b>r0 g0 b0</b></i>
-
-<rect class="act" x="10" y="0" width="1" height="12"><title>ACT in cycle 10: rank 0, group 0, bank 0, row 7, core 0, entry 3</title></rect>
-
-<rect class="rd" x="26" y="0" width="1" height="12"><title>RD in cycle 26: rank 0, group 0, bank 0, row 7, column 5, core 0, entry 3</title></rect>
-
-<rect class="rd" x="26" y="14" width="4" height="12">
-
-<rect class="pre" x="60" y="0" width="1" height="12"><title>PRE in cycle 60: rank 0, group 0, bank 0, core 0, entry 3</title></rect>
-
-<rect class="band" x="10" y="0" width="50" height="12"><title>row 7 open, since cycle 10</title></rect>"#,
-    r#"<script
-
-http
-
-REFs ×
-
-configuration""#,
+    &[
+        r#"<title>dramsim run</title>"#,
+        r#"<b>1,000</b> cycles, <b>1</b> core, <b>1</b> channel, <b>3</b> commands"#,
+        r#"<th scope="row">0</th><td>1</td><td>0</td><td>0.0</td><td>0.4</td><td>0.04</td><td>1</td><td>96.0</td><td>0.0</td><td>–</td></tr>"#,
+        r#"<th scope="row">0</th><td>1,235</td><td>1.24</td><td>799</td><td>1.54</td><td>1</td><td>50.0</td><td>90.0</td><td>5.0</td><td>2.5</td><td>2.0</td><td>0.5</td></tr>"#,
+        r#"<rect class="credit" x="0" width="5" height="1"><title>credit: 0.5 %</title></rect>"#,
+        r#"<rect class="window" x="5" width="25" height="1">"#,
+        r#"H25V0H30V800H35"#,
+        r#"<path class="line hits" d="M25 10V10H30"/>"#,
+        r#"<i class="lane" style="top:0px"><b>r0 g0 b0</b></i>"#,
+        r#"<rect class="act" x="10" y="0" width="1" height="12"><title>ACT in cycle 10: rank 0, group 0, bank 0, row 7, core 0, entry 3</title></rect>"#,
+        r#"<rect class="rd" x="26" y="0" width="1" height="12"><title>RD in cycle 26: rank 0, group 0, bank 0, row 7, column 5, core 0, entry 3</title></rect>"#,
+        r#"<rect class="rd" x="26" y="14" width="4" height="12">"#,
+        r#"<rect class="pre" x="60" y="0" width="1" height="12"><title>PRE in cycle 60: rank 0, group 0, bank 0, core 0, entry 3</title></rect>"#,
+        r#"<rect class="band" x="10" y="0" width="50" height="12"><title>row 7 open, since cycle 10</title></rect>"#,
+    ],
+    &[r#"<script"#, r#"http"#, r#"REFs ×"#, r#"configuration""#],
 );
 
 // 100 cycles from 20 on; the row is open for 40 of them.
 const OPEN: Parts<'static> = (
-    r#"Timeline from cycle 20 to before 120
-
-viewBox="0 0 100 28"
-
-<rect class="band" x="0" y="0" width="40" height="12"><title>row 7 open, since cycle 10</title>
-
-<rect class="rd" x="6" y="0" width="1" height="12">"#,
-    r#"<rect class="act" x="#,
+    &[
+        r#"Timeline from cycle 20 to before 120"#,
+        r#"viewBox="0 0 100 28""#,
+        r#"<rect class="band" x="0" y="0" width="40" height="12"><title>row 7 open, since cycle 10</title>"#,
+        r#"<rect class="rd" x="6" y="0" width="1" height="12">"#,
+    ],
+    &[r#"<rect class="act" x="#],
 );
 
 // A WR in cycle 248 has two cycles of data in its strip and two in the next.
@@ -108,29 +90,25 @@ const WRITTEN: Case = (
     1000,
     WHOLE,
     (
-        r#"<rect class="wr" x="248" y="14" width="2" height="12">
-
-<rect class="wr" x="0" y="14" width="2" height="12">
-
-a REF has a box of one cycle unless the configuration is given, which says how many it takes (nRFC).
-
-drawn from its command's cycle on: the tables do not have the latency (nCL, nCWL) after which data move.</p>"#,
-        "",
+        &[
+            r#"<rect class="wr" x="248" y="14" width="2" height="12">"#,
+            r#"<rect class="wr" x="0" y="14" width="2" height="12">"#,
+            r#"a REF has a box of one cycle unless the configuration is given, which says how many it takes (nRFC)."#,
+            r#"drawn from its command's cycle on: the tables do not have the latency (nCL, nCWL) after which data move.</p>"#,
+        ],
+        &[],
     ),
 );
 
 // With a clock of 1,250 MHz a cycle takes 0.8 ns: 1,000 are 800 ns, the finish in cycle 799 is at 639.2 ns, and 50
 // cycles of latency are 40 ns. One RD of 64 bytes in 800 ns is 0.08 GB/s.
-const CLOCKED: &str =
-    r#"<b>1,000</b> cycles, <b>1</b> core, <b>1</b> channel, <b>3</b> commands, <b>800</b> ns with a clock of <b>1250</b> MHz</p>
-
-data rate<br>(GB/s)
-
-<td>0.08</td></tr>
-
-finish<br>(ns)
-
-<td>639.2</td><td>40.0</td></tr>"#;
+const CLOCKED: &[&str] = &[
+    r#"<b>1,000</b> cycles, <b>1</b> core, <b>1</b> channel, <b>3</b> commands, <b>800</b> ns with a clock of <b>1250</b> MHz</p>"#,
+    r#"data rate<br>(GB/s)"#,
+    r#"<td>0.08</td></tr>"#,
+    r#"finish<br>(ns)"#,
+    r#"<td>639.2</td><td>40.0</td></tr>"#,
+];
 
 const HUNDRED: View = View {
     window: Window {
@@ -157,8 +135,11 @@ static CASES: [(usize, Case); 7] = [
             OPEN,
         ),
     ),
-    (0, (0, WHOLE, ("The run has no cycles.", "<h2"))),
-    (0, (1000, WHOLE, ("No command was issued.", "Timeline"))),
+    (0, (0, WHOLE, (&["The run has no cycles."], &["<h2"]))),
+    (
+        0,
+        (1000, WHOLE, (&["No command was issued."], &["Timeline"])),
+    ),
     (
         3,
         (
@@ -171,8 +152,8 @@ static CASES: [(usize, Case); 7] = [
                 khz: None,
             },
             (
-                "The run has no cycle from 1,000 on in the window.",
-                "lane\"",
+                &["The run has no cycle from 1,000 on in the window."],
+                &["lane\""],
             ),
         ),
     ),
@@ -184,10 +165,10 @@ static CASES: [(usize, Case); 7] = [
                 khz: Some(1_250_000),
                 ..HUNDRED
             },
-            (CLOCKED, ""),
+            (CLOCKED, &[]),
         ),
     ),
-    (3, (1000, HUNDRED, ("", CLOCKED))),
+    (3, (1000, HUNDRED, (&[], CLOCKED))),
 ];
 
 // The banks 0 and 2 of rank 0 are the first two lanes, whichever is used first, and that of rank 1 is the third. A REF
@@ -197,32 +178,22 @@ const OF_RANKS: Case = (
     1000,
     WHOLE,
     (
-        r#"<rect class="prea" x="50" y="0" width="1" height="12"><title>PREA in cycle 50: rank 0, all banks</title></rect>
-
-<rect class="prea" x="50" y="14" width="1" height="12">
-
-<rect class="band" x="10" y="14" width="40" height="12">
-
-<rect class="band" x="0" y="28" width="250" height="12">
-
-<rect class="ref" x="240" y="28" width="10" height="12"><title>REF in cycle 240: rank 1, all banks</title></rect>
-
-<rect class="ref" x="0" y="28" width="250" height="12">
-
-<rect class="ref" x="0" y="28" width="90" height="12">
-
-<td>–</td><td>35.0</td></tr>
-
-<li><b>nRFC</b> 350</li>
-
-<li><b>fields</b> channel column group bank row</li>
-
-<li><b>end</b> limit</li>
-
-a REF is drawn for the cycles that it takes by the configuration (nRFC).
-
-drawn from its command's cycle on, though its data move nCL (RD) or nCWL (WR) cycles later.</p>"#,
-        "r1 g0 b0",
+        &[
+            r#"<rect class="prea" x="50" y="0" width="1" height="12"><title>PREA in cycle 50: rank 0, all banks</title></rect>"#,
+            r#"<rect class="prea" x="50" y="14" width="1" height="12">"#,
+            r#"<rect class="band" x="10" y="14" width="40" height="12">"#,
+            r#"<rect class="band" x="0" y="28" width="250" height="12">"#,
+            r#"<rect class="ref" x="240" y="28" width="10" height="12"><title>REF in cycle 240: rank 1, all banks</title></rect>"#,
+            r#"<rect class="ref" x="0" y="28" width="250" height="12">"#,
+            r#"<rect class="ref" x="0" y="28" width="90" height="12">"#,
+            r#"<td>–</td><td>35.0</td></tr>"#,
+            r#"<li><b>nRFC</b> 350</li>"#,
+            r#"<li><b>fields</b> channel column group bank row</li>"#,
+            r#"<li><b>end</b> limit</li>"#,
+            r#"a REF is drawn for the cycles that it takes by the configuration (nRFC)."#,
+            r#"drawn from its command's cycle on, though its data move nCL (RD) or nCWL (WR) cycles later.</p>"#,
+        ],
+        &["r1 g0 b0"],
     ),
 );
 

@@ -1,14 +1,15 @@
 -- The first request that passes a test, among those of the banks below a number.
-use Rattle.std.proofs.Common.{◌≡◌, ℕ, zero, suc, ◌+◌, ◌<◌, ◌≤◌, Bool, true, false, ◌&&◌, ◌||◌, ltb, eqb, List, [], ◌∷◌, length, Option, Some, None, refl, sym, ap, ◌∙◌, inl, inr, arith}
+use Rattle.std.proofs.Common.{◌≡◌, ℕ, zero, suc, ◌+◌, ◌<◌, ◌≤◌, Bool, true, false, not, ◌&&◌, ◌||◌, ltb, eqb, List, [], ◌∷◌, length, Option, Some, None, refl, sym, ap, ◌∙◌, inl, inr, arith}
 use Rattle.std.proofs.Math.Bool.{or-false}
-use Rattle.std.proofs.lemmas.Bool.{cases_lt, cases_eq, lt-ltb, le-ltb, eq-eqb, ne_eqb}
+use Rattle.std.proofs.lemmas.Bool.{and_parts, not-true, cases_lt, cases_eq, lt-ltb, le-ltb, eq-eqb, ne_eqb}
 use Rattle.std.proofs.lemmas.List.{length-map}
 use Rattle.std.specs.List.{All, slice_get}
 use Rattle.std.specs.Option.{is_some, option_map, option_and_then, IfSome}
 use Rattle.sim_base.specs.declared.config.Config.{Config}
 use Rattle.sim_base.specs.declared.command.IssuedCommand.{IssuedCommand}
 use Rattle.sim_base.specs.declared.message.Request.{Request}
-use Rattle.sim_base.specs.Scheduling.{needed, or_else, first_ready, ready_hit, ready_row}
+use Rattle.sim_base.specs.Rules.{is_legal}
+use Rattle.sim_base.specs.Scheduling.{needed, is_column_command, is_withheld, or_else, first_ready, ready_hit, ready_row}
 use Rattle.queue.specs.declared.request_log.Arrived.{Arrived}
 use Rattle.queue.specs.Log.{all_requests, waits_at}
 use Rattle.queue.specs.Columns.{bank_number}
@@ -19,8 +20,8 @@ use Rattle.queue.proofs.Searches.{none_everywhere}
 use Rattle.channel_step.specs.declared.fr_fcfs.offers.Offer.{Offer}
 use Rattle.channel_step.specs.FrFcfs.Requests.{candidates_of}
 use Rattle.channel_step.specs.declared.fr_fcfs.accesses.Accesses.{Accesses}
-use Rattle.channel_step.specs.FrFcfs.Offers.{going, hits_now, row_requests_now, IsAt, IsBest, IsFirstReady}
-use Rattle.channel_step.proofs.FrFcfs.Firsts.{same_among, either_among, find_going, first_waits}
+use Rattle.channel_step.specs.FrFcfs.Offers.{going, is_of, hits_now, row_requests_now, IsAt, IsBest, IsFirstReady}
+use Rattle.channel_step.proofs.FrFcfs.Firsts.{same_among, either_among, find_going, first_waits, first_passes}
 
 -- the first request of the banks below a number that passes a test
 abbrev pub place_below : ℕ → (Request → Bool) → List Arrived → Option ℕ
@@ -109,6 +110,22 @@ offer_waits : (log : List Arrived) (first second : Request → Bool) (hit : Bool
 offer_waits log first second true place is = first_waits first log place is
 offer_waits log first second false place is = first_waits second log place is.1
 
+-- what the request of a row hit needs is a column command, and what that of another offer needs is none
+offer_class : (s : Config) (history : List IssuedCommand) (log : List Arrived) (accesses : Accesses) (hit : Bool) (cycle place : ℕ) (r : Request)
+    → IsAt hit (first_place (hits_now s history accesses cycle) log) (first_place (row_requests_now s history log accesses cycle) log) place
+    → slice_get (all_requests log) place ≡ Some r → is_column_command (needed history r) ≡ hit
+unfolding ready_hit ready_row
+offer_class s history log accesses true cycle place r is there =
+    let column = is_column_command (needed history r) in
+    let passed = first_passes (hits_now s history accesses cycle) log place r is there in
+    (and_parts column (is_legal s history cycle (needed history r)) (and_parts (is_of accesses r) (column && is_legal s history cycle (needed history r)) passed).1).0
+offer_class s history log accesses false cycle place r is there =
+    let column = is_column_command (needed history r) in
+    let legal = is_legal s history cycle (needed history r) in
+    let free = not (is_withheld history (going accesses log) (needed history r)) in
+    let passed = first_passes (row_requests_now s history log accesses cycle) log place r is.1 there in
+    not-true column (and_parts (not column) legal (and_parts (not column && legal) free (and_parts (is_of accesses r) (not column && legal && free) passed).1).0).0
+
 -- the offer that goes first of all is what the first request needs that is ready
 pub first_ready_is : (s : Config) (history : List IssuedCommand) (queue : QueueView) (accesses : Accesses) (now : ℕ) (o : Option Offer) → candidates_of s queue ≡ going accesses queue.log
     → IfSome o (λ x. x.place < length queue.log)
@@ -135,4 +152,5 @@ first_ready_is s history queue accesses now (Some o) cands within best =
           ∙ ready_at history (all_requests log) o.hit (first_place (hits_now s history accesses o.cycle) log) (first_place (row_requests_now s history log accesses o.cycle) log) o.place
           (omega (arith, length-map log (λ (a : Arrived). a.request), within)) best.then_is;
       waits = offer_waits log (hits_now s history accesses o.cycle) (row_requests_now s history log accesses o.cycle) o.hit o.place best.then_is;
+      hit_is = λ r there. offer_class s history log accesses o.hit o.cycle o.place r best.then_is there;
     }

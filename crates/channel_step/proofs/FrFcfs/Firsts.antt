@@ -4,6 +4,7 @@ use Rattle.std.proofs.lemmas.Bool.{and_parts}
 use Rattle.std.proofs.lemmas.List.{length-map}
 use Rattle.std.proofs.lemmas.List.Elements.{All-head, All-tail}
 use Rattle.std.proofs.lemmas.List.Quantifiers.{position-Some}
+use Rattle.std.proofs.lemmas.Option.{slice_get-get_or}
 use Rattle.std.proofs.lemmas.Slice.Zip.{get_or-zip}
 use Rattle.std.specs.List.{filter, find, zip, list_any, position, slice_get, All}
 use Rattle.std.specs.Option.{is_some, option_map, option_and_then}
@@ -140,6 +141,18 @@ some_filtered t log =
 
     same_test : is_some (first_place t log) ≡ is_some (position (passes (λ r. t r && true)) (zip (all_requests log) (eligible_column log)))
     same_test = λ i. is_some (position (λ e. is_marked e.1 && with_true (t e.0) i) (zip (all_requests log) (eligible_column log)))
+
+-- what is found passes the test
+pub first_passes : (test : Request → Bool) (log : List Arrived) (place : ℕ) (r : Request) → first_place test log ≡ Some place → slice_get (all_requests log) place ≡ Some r → test r ≡ true
+first_passes test log place r is there =
+    let found = position-Some (passes test) (marked_requests log) place (absent.request, 0) is in
+    let within : place < length log = omega (arith, found.0, length-marked_requests log) in
+    let in_requests : place < length (all_requests log) = omega (arith, within, length-map log (λ (a : Arrived). a.request)) in
+    let marked = get_or-zip (all_requests log) (eligible_column log) place (absent.request, 0) in_requests (omega (arith, within, length-eligible log)) in
+    let passed = sym (ap (passes test) marked) ∙ found.1 in
+    let same : Some (get_or (all_requests log) place absent.request) ≡ Some r = sym (slice_get-get_or (all_requests log) place absent.request in_requests) ∙ there in
+    let same_request : get_or (all_requests log) place absent.request ≡ r = cc in
+    ap test (sym same_request) ∙ (and_parts (is_marked (get_or (eligible_column log) place 0)) (test (get_or (all_requests log) place absent.request)) passed).1
 
 -- what is found waits
 pub first_waits : (test : Request → Bool) (log : List Arrived) (place : ℕ) → first_place test log ≡ Some place → waits_at log place ≡ true

@@ -2,7 +2,7 @@
 use Rattle.std.proofs.Common.{◌≡◌, ℕ, ◌<◌, ◌≤◌, Bool, true, false, not, cond, ◌&&◌, eqb, leb, List, Option, Some, None, refl, sym, ap, ◌∙◌, inl, inr, arith}
 use Rattle.std.proofs.lemmas.Bool.{cases_Bool, eqb-true, and_parts, leb-true, leb-false, false_from_ne_true, false≢true, cond-true}
 use Rattle.std.specs.List.{list_any}
-use Rattle.std.specs.Option.{is_some}
+use Rattle.std.specs.Option.{is_some, option_and_then}
 use Rattle.std.proofs.Math.Bool.{and-false, and-true}
 use Rattle.sim_base.specs.declared.config.Config.{Config}
 use Rattle.sim_base.specs.declared.command.Command.{Command}
@@ -17,6 +17,7 @@ use Rattle.sim_base.specs.Rules.{is_legal, is_allowed, finds_its_banks, open_row
 use Rattle.sim_base.specs.Scheduling.{source_of, column_command_to, column_command, needed_at, needed, is_column_command, is_withheld, has_hit}
 use Rattle.sim_base.proofs.Lists.{eqb-swap}
 use Rattle.bank_ready.specs.Stands.{IsAllowedFrom}
+use Rattle.channel_step.specs.FrFcfs.Choices.{needed_if}
 use Rattle.channel_step.specs.FrFcfs.Requests.{IsLegalFrom, finds_row_open}
 use Rattle.channel_step.proofs.FrFcfs.Booleans.{any_never}
 
@@ -142,3 +143,26 @@ same_bank a b same =
       group = eqb-true a.group b.group group.1 i;
       bank = eqb-true a.bank b.bank bank.1 i;
     }
+
+kept_if : (column : Bool) (x command : Command) → cond column (Some x) None ≡ Some command → (x ≡ command) × (column ≡ true)
+kept_if true x command is = (cc, refl)
+kept_if false x command is = absurd cc
+
+kept_unless : (column : Bool) (x command : Command) → cond column None (Some x) ≡ Some command → (x ≡ command) × (column ≡ false)
+kept_unless true x command is = absurd cc
+kept_unless false x command is = (cc, refl)
+
+-- what a request needs, where it is a column command, or where it is none
+pub needs_if : (column : Bool) (history : List IssuedCommand) (r : Request) (command : Command) → needed_if column history r ≡ Some command
+    → (needed history r ≡ command) × (is_column_command (needed history r) ≡ column)
+needs_if true history r command is = kept_if (is_column_command (needed history r)) (needed history r) command is
+needs_if false history r command is = kept_unless (is_column_command (needed history r)) (needed history r) command is
+
+pub needed_so : (column : Bool) (history : List IssuedCommand) (r : Request) → is_column_command (needed history r) ≡ column → needed_if column history r ≡ Some (needed history r)
+needed_so true history r is = ap (λ b. cond b (Some (needed history r)) None) is
+needed_so false history r is = ap (λ b. cond b None (Some (needed history r))) is
+
+-- what is asked for a request is a column command, or none
+pub asked_class : (column : Bool) (history : List IssuedCommand) (o : Option Request) (command : Command) → option_and_then (needed_if column history) o ≡ Some command → is_column_command command ≡ column
+asked_class column history None command is = absurd cc
+asked_class column history (Some r) command is = let needs = needs_if column history r command is in ap is_column_command (sym needs.0) ∙ needs.1

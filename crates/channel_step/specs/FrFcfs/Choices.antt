@@ -2,16 +2,19 @@
 --     StandFor bank_candidates banks refresh queue groups s history      the parts of a channel stand for its commands
 --     ForParts parts fact      a fact of each configuration and its commands that the parts of a channel stand for
 --     choice_in s history queue now      the command of a cycle
+--     needed_if column history r      the command that a request needs, if it is a column command, or is none
+--     need_of column place      the request at a place needs a column command, or one that opens or closes a row
 --     command_of s history log need      the command that a need asks for
 --     IsFor ranks log need      a need is a request that waits, or a rank that there is
 --     HasPlace ranks log next      what needs the next command, if anything, is a request that waits, or a rank that there is
 --     HoldsBack s history rank due now rest commands      a rank that is to be refreshed goes first
 --     TakesRefresh parts rank due old new      what comes next takes in the refresh of a rank
-use Rattle.std.specs.Prelude.{◌≡◌, ℕ, ◌<◌, ◌≤◌, true, List, length, Option, Some, option_map, slice_get, IfSome, if◌then◌else◌}
+use Rattle.std.specs.Prelude.{◌≡◌, ℕ, ◌<◌, ◌≤◌, Bool, true, false, List, length, Option, Some, None, option_and_then, slice_get, IfSome, if◌then◌else◌}
 use Rattle.sim_base.specs.declared.config.Config.{Config}
 use Rattle.sim_base.specs.declared.command.Command.{Command}
 use Rattle.sim_base.specs.declared.command.IssuedCommand.{IssuedCommand}
-use Rattle.sim_base.specs.Scheduling.{choice_between, if_legal, lowest_due, needed, refresh_command}
+use Rattle.sim_base.specs.declared.message.Request.{Request}
+use Rattle.sim_base.specs.Scheduling.{choice_between, if_legal, is_column_command, lowest_due, needed, refresh_command}
 use Rattle.bank_ready.specs.declared.banks.Banks.{Banks}
 use Rattle.bank_ready.specs.Stands.{StandsFor as BanksStandFor}
 use Rattle.bank_ready.specs.Refreshes.{RefreshCounts, is_due_at, StandsFor as RefreshesStandFor}
@@ -48,15 +51,27 @@ ForParts parts fact =
 abbrev pub choice_in : Config → List IssuedCommand → QueueView → ℕ → Option Command
 choice_in s history queue now = choice_between s history now (candidates_of s queue) (lowest_due s history now)
 
--- the command that a need asks for: the request at a place of a log, or a rank that is to be
--- refreshed
+-- the command that a request needs, if it is a column command (`column` is true), or if it is none
+abbrev pub needed_if : Bool → List IssuedCommand → Request → Option Command
+needed_if true history r = if is_column_command (needed history r) then Some (needed history r) else None
+needed_if false history r = if is_column_command (needed history r) then None else Some (needed history r)
+
+-- the request at a place needs a column command, or an ACT or a PRE
+abbrev pub need_of : Bool → ℕ → Need
+need_of true place = Needs.Column place
+need_of false place = Needs.Row place
+
+-- The command that a need asks for: the column command that the request at a place of a log needs, or the ACT or the PRE
+-- that it needs, or what a rank needs that is to be refreshed. There is none if the request needs another one.
 abbrev pub command_of : Config → List IssuedCommand → List Arrived → Need → Option Command
-command_of s history log (Needs.Request place) = option_map (needed history) (slice_get (all_requests log) place)
+command_of s history log (Needs.Row place) = option_and_then (needed_if false history) (slice_get (all_requests log) place)
+command_of s history log (Needs.Column place) = option_and_then (needed_if true history) (slice_get (all_requests log) place)
 command_of s history log (Needs.Refresh rank) = Some (refresh_command s history rank)
 
 -- A need is a request that waits at a place of a log, or one of `ranks` ranks.
 abbrev pub IsFor : ℕ → List Arrived → Need → Type 0
-IsFor ranks log (Needs.Request place) = (place < length log) × (waits_at log place ≡ true)
+IsFor ranks log (Needs.Row place) = (place < length log) × (waits_at log place ≡ true)
+IsFor ranks log (Needs.Column place) = (place < length log) × (waits_at log place ≡ true)
 IsFor ranks log (Needs.Refresh rank) = rank < ranks
 
 -- What needs the next command, if anything, is a request that waits at a place of a log, or one of `ranks` ranks.

@@ -30,7 +30,7 @@ use Rattle.sim_base.specs.declared.message.Access.TheVariants as access
 use Rattle.sim_base.specs.declared.message.Request.{Request}
 use Rattle.sim_base.specs.declared.place.BankId.{BankId}
 use Rattle.sim_base.specs.Rules.{kind_of, bank_of, finds_its_banks}
-use Rattle.sim_base.specs.Scheduling.{needed, ready_hit, ready_row, first_of_lines, first_ready}
+use Rattle.sim_base.specs.Scheduling.{needed, is_column_command, ready_hit, ready_row, first_of_lines, first_ready}
 use Rattle.bank_ready.specs.declared.banks.Banks.{Banks}
 use Rattle.queue.specs.declared.request_log.Arrived.{Arrived}
 use Rattle.queue.specs.Log.{waiting_requests, all_requests, waits_at}
@@ -255,7 +255,7 @@ TakesRowsOf bank_candidates banks asked commands old new =
     (row_requests_beside s history log commands.accesses (with_skipped (is_in asked) left)) old
     → IsBestSoFar (length log) commands.now hits (row_requests_beside s history log commands.accesses left) new
 
--- An offer is what the first ready request, from `now` on, needs. That request waits.
+-- An offer is what the first ready request, from `now` on, needs: a column command or none. That request waits.
 pub record IsReadyAt (s : Config) (history : List IssuedCommand) (queue : QueueView) (now : ℕ) (o : Offer)
     : Type 0 where
   pub from_now : now ≤ o.cycle
@@ -264,6 +264,8 @@ pub record IsReadyAt (s : Config) (history : List IssuedCommand) (queue : QueueV
   pub then_is : first_ready s history o.cycle (candidates_of s queue)
       ≡ option_map (needed history) (slice_get (all_requests queue.log) o.place)
   pub waits : waits_at queue.log o.place ≡ true
+  pub hit_is : (r : Request) → slice_get (all_requests queue.log) o.place ≡ Some r
+      → is_column_command (needed history r) ≡ o.hit
 
 -- An offer is what the first ready request, from `now` on, needs, or there is none and no request is ever ready.
 abbrev pub IsFirstReady : Config → List IssuedCommand → QueueView → ℕ → Option Offer → Type 0

@@ -1,6 +1,6 @@
 //! Whether the next command stays the same when requests arrive.
 
-ghost use Rattle.std.specs.Prelude.{◌≡◌, ◌<◌, ℕ, true, List, length, Some, All, IsTrue, take};
+ghost use Rattle.std.specs.Prelude.{◌≡◌, ◌<◌, true, List, Some, IsTrue, take};
 ghost use Rattle.sim_base.specs.Rules.{kind_of};
 ghost use Rattle.sim_base.specs.Scheduling.{needed_at, is_column_command};
 ghost use Rattle.sim_base.specs.declared.config.Config.{Config};
@@ -9,12 +9,11 @@ ghost use Rattle.sim_base.specs.declared.command.IssuedCommand.{IssuedCommand};
 ghost use Rattle.sim_base.specs.declared.message.Request.{Request};
 ghost use Rattle.bank_ready.specs.Words.{names_bank};
 ghost use Rattle.bank_ready.specs.Stands.{rank_count, StandsFor as BanksStandFor};
-ghost use Rattle.queue.specs.Log.{all_requests};
-ghost use Rattle.channel_step.specs.declared.fr_fcfs.choice.Need.TheVariants as Needs;
+ghost use Rattle.queue.specs.declared.request_log.Arrived.{Arrived};
 ghost use Rattle.channel_step.specs.FrFcfs.Arrivals.{ComesAfter, StaysFound};
 ghost use Rattle.channel_step.specs.FrFcfs.Choices.{command_of, IsFor};
 ghost use Rattle.channel_step.specs.FrFcfs.Offers.{going};
-ghost use Rattle.channel_step.specs.FrFcfs.Requests.{IsInBanks, IsOfBank, AreInBanks, OfSameBanks, KnowsRows, ForRequests, candidates_of, finds_row_open};
+ghost use Rattle.channel_step.specs.FrFcfs.Requests.{IsInBanks, AreInBanks, OfSameBanks, KnowsRows, ForRequests, candidates_of};
 
 use crate::fr_fcfs::accesses::{ALL_ACCESSES, Accesses, accesses_that_go, are_same, goes};
 use crate::fr_fcfs::choice::Need;
@@ -22,7 +21,6 @@ use crate::fr_fcfs::offers::ready;
 use bank_ready::banks::Banks;
 use queue::Queue;
 use queue::bank_candidates::BankCandidates;
-use queue::request_log::Arrived;
 use queue::request_log::words::bank_number;
 use sim_base::command::Kind;
 use sim_base::message::{Access, Cycle, Request};
@@ -74,30 +72,15 @@ fn comes_after(
     after && (hit || !is_column_kind(kind))
 }
 
-/// Whether a request asks for the row that is open in its bank.
-#[inline(always)]
-fn finds_row_open(bank_candidates: &BankCandidates, request: &Request) -> bool
-    requires { IsOfBank bank_candidates.now request.now }
-    ensures { (history : List IssuedCommand)
-        → KnowsRows bank_candidates.now history → result ≡ finds_row_open history request.now }
-{
-    match bank_candidates.open_row(request.place.bank_id()) {
-        Some(row) => row == request.place.row,
-        None => false,
-    }
-}
-
 /// Whether the command that a need asks for is a column command.
 #[inline(always)]
-fn needs_column_command(bank_candidates: &BankCandidates, log: &[Arrived], need: Need) -> bool
-    requires places { All (IsOfBank bank_candidates.now) (all_requests log.now) }
-    requires within { (place : ℕ) → need ≡ Needs.Request place → place < length log.now }
-    ensures { (s : Config) (history : List IssuedCommand) (command : Command)
-        → KnowsRows bank_candidates.now history
-        → command_of s history log.now need ≡ Some command → result ≡ is_column_command command }
+fn needs_column_command(need: Need) -> bool
+    ensures { (s : Config) (history : List IssuedCommand) (log : List Arrived) (command : Command)
+        → command_of s history log need ≡ Some command → result ≡ is_column_command command }
 {
     match need {
-        Need::Request(place) => finds_row_open(bank_candidates, &log[place as usize].request),
+        Need::Column(_) => true,
+        Need::Row(_) => false,
         Need::Refresh(_) => false,
     }
 }
@@ -129,7 +112,7 @@ fn none_goes_before(
 {
     let (cycle, need) = found;
     let log = queue.log().log();
-    let hit = needs_column_command(bank_candidates, log, need);
+    let hit = needs_column_command(need);
     for place in before.places..log.len() {
         let request = &log[place].request;
         let is_going = goes(before.accesses, request.access);

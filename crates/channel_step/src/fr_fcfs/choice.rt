@@ -1,14 +1,14 @@
 //! What needs the command of the next cycle, and the first cycle with one.
 
-ghost use Rattle.std.specs.Prelude.{◌<◌, ◌≤◌, List, Option};
+ghost use Rattle.std.specs.Prelude.{◌≡◌, ◌<◌, ◌≤◌, ◌-◌, ◌^◌, List, Option};
 ghost use Rattle.bank_ready.specs.Stands.{rank_count};
 ghost use Rattle.queue.specs.declared.request_log.Arrived.{Arrived};
 ghost use Rattle.channel_step.specs.FrFcfs.Requests.{AreInBanks, OfSameBanks, ForRequests, first_ready_in};
 ghost use Rattle.channel_step.specs.FrFcfs.Cycles.{IsNext};
-ghost use Rattle.channel_step.specs.FrFcfs.Choices.{ForParts, choice_in, command_of, HasPlace, TakesRefresh};
+ghost use Rattle.channel_step.specs.FrFcfs.Choices.{ForParts, choice_in, command_of, need_of, HasPlace, TakesRefresh};
 
 use crate::fr_fcfs::needs::refresh_ready;
-use crate::fr_fcfs::offers::first_offer;
+use crate::fr_fcfs::offers::{Offer, first_offer};
 use bank_ready::banks::Banks;
 use bank_ready::refresh::Refresh;
 use queue::Queue;
@@ -18,8 +18,10 @@ use sim_base::message::Cycle;
 /// What needs the next command.
 #[derive(Clone, Copy)]
 pub enum Need {
-    /// The request at a place of the queue's log.
-    Request(u32),
+    /// The request at a place of the queue's log, for which a row is opened or closed: an ACT or a PRE.
+    Row(u32),
+    /// The request at a place of the queue's log, whose data are moved: a RD or a WR.
+    Column(u32),
     /// A rank that is to be refreshed, by its number.
     Refresh(u32),
 }
@@ -33,6 +35,20 @@ pub struct ChannelParts<'a> {
     pub banks: &'a Banks,
     pub refresh: &'a Refresh,
     pub groups: u32,
+}
+
+/// What needs the command of an offer.
+#[inline(always)]
+fn need_of(offer: Offer) -> Need
+    requires { offer.place < 2 ^ 16 - 1 }
+    ensures { result ≡ need_of offer.hit offer.place }
+{
+    let place = offer.place as u32;
+    if offer.hit {
+        Need::Column(place)
+    } else {
+        Need::Row(place)
+    }
 }
 
 /// The first cycle from now on in which a command that some request needs may be issued, and that request.
@@ -52,7 +68,7 @@ fn next_of_requests(
         HasPlace (rank_count banks.now) queue.now.log result) }
 {
     match first_offer(queue, bank_candidates, banks, now) {
-        Some(offer) => Some((offer.cycle, Need::Request(offer.place as u32))),
+        Some(offer) => Some((offer.cycle, need_of(offer))),
         None => None,
     }
 }

@@ -1,9 +1,7 @@
 use Rattle.std.proofs.Common.{◌≡◌, Some, None, ap, subst, ◌∙◌, arith}
-use Rattle.std.specs.Prelude.{is_some}
 use Rattle.channel_step.specs.FrFcfs.Choices.{HasPlace}
 use Rattle.channel_step.specs.Channels.{IsNextCommand}
 use Rattle.channel_step.specs.declared.next_command.NextCommand.TheVariants.{Known}
-use Rattle.channel_step.proofs.Foreseen.{needs}
 use Rattle.channel_step.proofs.channel.Channel.find.Goals as goal
 
 pub next-requires-clause-places : goal.next-requires-clause-places
@@ -35,7 +33,7 @@ returns-in-Known-Some c s history stand known l =
       record {
         from_now = c.if-now-cycle.true;
         then_is = then.then_is;
-        there_is = ap is_some (needs s history x.queue.log i.need then.place).1;
+        there_is = then.there_is;
         none_before = λ t k. then.none_before t (omega arith);
       },
       then.place,

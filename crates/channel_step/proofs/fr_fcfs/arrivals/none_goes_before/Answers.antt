@@ -10,7 +10,6 @@ use Rattle.queue.specs.Log.{absent, all_requests}
 use Rattle.bank_ready.specs.Stands.{rank_count}
 use Rattle.queue.proofs.Waits.{request_at}
 use Rattle.channel_step.specs.FrFcfs.Arrivals.{ComesAfter}
-use Rattle.channel_step.specs.FrFcfs.Choices.{command_of}
 use Rattle.channel_step.specs.FrFcfs.Offers.{going, is_of}
 use Rattle.channel_step.specs.FrFcfs.Requests.{KnowsRows, IsInBanks}
 use Rattle.channel_step.proofs.FrFcfs.Staying.{next_stays, all_dropped}
@@ -50,6 +49,6 @@ returns c always s history stands bank_candidates high now earlier command whole
     (subst (λ (l : List Arrived). AllWithin P (all_requests l) from c.loop-place.place) same (c.loop-place.invariant s history stands knows)) in
     let new = drop from log in
     let parts : log ≡ earlier.log ++ new = sym (take-append-drop from log) ∙ ap (λ xs. xs ++ new) (sym whole) in
-    let hit = c.needs_column_command-hit.ensures s history command knows (ap (λ l. command_of s history l c.args.found.1) same ∙ needs) in
+    let hit = c.needs_column_command-hit.ensures s history log command needs in
     next_stays s history earlier c.args.queue.now new accesses c.args.found.0 command (went ∙ ap (going accesses) (sym whole)) now parts
     (subst (λ b. All (λ r. is_of accesses r ≡ true → ComesAfter s history c.args.found.0 b r) (all_requests new)) hit (subst (All P) (drop-map (λ (a : Arrived). a.request) from log) (all_dropped P (all_requests log) from within)))
