@@ -125,9 +125,11 @@ pub(crate) fn send(
     let travel = travel_to(sender, source.core);
     match request.access {
         Access::Read => {
+            let reply = reply_to(sender, source, travel);
+            let credit = credit_for(sender, Access::Read, source, travel);
             messages.reserve(2)?;
-            messages.push_reserved(reply_to(sender, source, travel));
-            messages.push_reserved(credit_for(sender, Access::Read, source, travel));
+            messages.push_reserved(reply);
+            messages.push_reserved(credit);
         }
         Access::Write => messages.push(credit_for(sender, Access::Write, source, travel))?,
     }

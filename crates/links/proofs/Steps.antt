@@ -1,9 +1,9 @@
 -- The steps of the loops over one buffer.
-use Rattle.std.proofs.Common.{ℕ, suc, zero, ◌+◌, ◌-◌, ◌<◌, ◌≤◌, ◌≡◌, ◌⊎◌, inl, inr, Bool, true, false, not, ltb, get_or, set, length, length-set, take, drop, List, [], ◌∷◌, ◌++◌, append-nil, Some, refl, sym, ap, ◌∙◌, subst, arith}
+use Rattle.std.proofs.Common.{ℕ, suc, zero, ◌+◌, ◌-◌, ◌<◌, ◌≤◌, ◌≡◌, ◌⊎◌, inl, inr, Bool, true, false, not, ltb, get_or, set, length, length-set, take, drop, List, [], ◌∷◌, ◌++◌, append-nil, Option, Some, None, refl, sym, ap, ◌∙◌, subst, arith}
 use Rattle.std.specs.Prelude.{filter, insert, slice_get}
 use Rattle.std.specs.Option.{option_map_or}
 use Rattle.std.specs.List.{take_while, AllByRecursion as Each}
-use Rattle.std.proofs.lemmas.Bool.{cases_lt, cond-true, cond-false, le-ltb, ltb-false, true≢false}
+use Rattle.std.proofs.lemmas.Bool.{cases_lt, cond-true, cond-false, le-ltb, lt-ltb, ltb-true, ltb-false, true≢false}
 use Rattle.std.proofs.lemmas.Option.{slice_get-get_or}
 use Rattle.std.proofs.Math.Seq.{drop-append_seam}
 use Rattle.std.proofs.lemmas.List.{get_or_default, get_or-set_other, set-set, length_push, drop-append-le, get_or-drop, length-append, length-drop, length-take-le, take_all, drop_all}
@@ -14,7 +14,7 @@ use Rattle.sim_base.proofs.Arrived.{put, fold-puts, not_before_le}
 use Rattle.sim_base.proofs.Lists.{slice_get-drop}
 use Rattle.sim_base.proofs.Ordered.{Each-weaker, Sorted}
 use Rattle.links.specs.InFlight.{arrives_before}
-use Rattle.links.specs.Buffers.{arrives_later, is_younger_last, IsInserted}
+use Rattle.links.specs.Buffers.{arrives_later, is_last_due, is_younger_last, IsInserted}
 use Rattle.links.proofs.Ages.{in_order-Sorted}
 use Rattle.links.proofs.Merging.{after_both}
 
@@ -315,3 +315,35 @@ put_in m y free len ms places pushed written new l e s young at f g k same h =
     let last = last_of m y free ms places l e young in
     rest_written free len written new pushed (omega (arith, l, longer)) (same ∙ ap length whole ∙ length-drop free written) k (omega (arith, k, long, longer))
     ∙ inserted_among m y ms _ new s (last.1 ∙ ap Some (sym at)) young twice h
+
+-- ---- messages of which the last one is due
+get_or-first : (xs : List Message) (k : ℕ) (d : Message) → k < length xs → get_or (xs ++ d ∷ []) k d ≡ get_or xs k d
+get_or-first [] k d h = absurd (omega arith)
+get_or-first (x ∷ xs) zero d h = refl
+get_or-first (x ∷ xs) (suc k) d h = get_or-first xs k d (omega arith)
+
+due-all : (until : ℕ) (ms : List Message) (last : Message) → Sorted ms → slice_get ms (length ms - 1) ≡ Some last → last.arrival < until → filter (arrives_before until) ms ≡ ms
+due-all until [] last s e l = refl
+due-all until (m ∷ []) last s e l =
+    let same : m ≡ last = cc in
+    let due : arrives_before until m ≡ true = lt-ltb m.arrival until (omega (arith, l, ap (λ (x : Message). x.arrival) same)) in
+    cond-true (arrives_before until m) (m ∷ []) [] due
+due-all until (m ∷ n ∷ ns) last s e l =
+    let behind_first : length (m ∷ n ∷ ns) - 1 ≡ suc (length ns) = omega arith in
+    let last_of_rest : length ns ≡ length (n ∷ ns) - 1 = omega arith in
+    let there : slice_get (n ∷ ns) (length ns) ≡ Some last = subst (λ k. slice_get (m ∷ n ∷ ns) k ≡ Some last) behind_first e in
+    let rest = due-all until (n ∷ ns) last s.1 (subst (λ k. slice_get (n ∷ ns) k ≡ Some last) last_of_rest there) l in
+    let at = got last last (length ns) (n ∷ ns) there in
+    let behind : is_before last m ≡ false = subst (λ (x : Message). is_before x m ≡ false) (at-same at.0 at.1) (Each-at _ (n ∷ ns) (length ns) last s.0 at.0) in
+    let due : arrives_before until m ≡ true = lt-ltb m.arrival until (omega (arith, l, not_before_le last m behind)) in
+    cond-true (arrives_before until m) (m ∷ filter (arrives_before until) (n ∷ ns)) (filter (arrives_before until) (n ∷ ns)) due ∙ ap (λ xs. m ∷ xs) rest
+  where
+    at-same : length ns < length (n ∷ ns) → get_or ((n ∷ ns) ++ last ∷ []) (length ns) last ≡ last → get_or (n ∷ ns) (length ns) last ≡ last
+    at-same within there = sym (get_or-first (n ∷ ns) (length ns) last within) ∙ there
+
+pub all_due : (until : ℕ) (ms : List Message) → by_age ms ≡ ms → is_last_due until ms ≡ true → filter (arrives_before until) ms ≡ ms
+all_due until ms h is = pick (slice_get ms (length ms - 1)) refl is
+  where
+    pick : (o : Option Message) → slice_get ms (length ms - 1) ≡ o → option_map_or (arrives_before until) o false ≡ true → filter (arrives_before until) ms ≡ ms
+    pick None e is = absurd (true≢false (sym is))
+    pick (Some last) e is = due-all until ms last (in_order-Sorted ms h) e (ltb-true last.arrival until is)

@@ -37,6 +37,7 @@
 --     HasYoungerBefore ms place m      the message directly before a place is younger than another
 --     NoneYoungerBefore ms place m      the message directly before a place, if any, is not younger than another
 --     IsInserted m old new      a message is put among others by age, of which the last was younger and stood twice
+--     is_last_due until ms      the last of some messages arrives before a cycle
 --     is_younger_last m ms      the last of some messages is younger than another
 use Rattle.std.specs.Prelude.{◌≡◌, ℕ, ◌+◌, ◌*◌, ◌-◌, ◌/◌, ◌%◌, ◌==◌, ◌^◌, ◌<◌, ◌≤◌, Bool, true, false, not, ◌&&◌, filter, count_by, fold, slice_get, List, [], ◌∷◌, ◌++◌, length, map, min, slice_index_or, vec_len, vec_capacity, Option, Some, if◌then◌else◌}
 use Rattle.std.specs.declared.vec.Vec.{Vec}
@@ -242,6 +243,10 @@ IsInserted m old new =
     (ms : List Message) (y : Message) → IsByAge ms → old ≡ ms ++ y ∷ [] → slice_get ms (length ms - 1) ≡ Some y
     → is_before m y ≡ true
     → new ≡ insert_by_age ms m
+
+-- the last of some messages arrives before a cycle
+abbrev pub is_last_due : ℕ → List Message → Bool
+is_last_due until ms = option_map_or (arrives_before until) (slice_get ms (length ms - 1)) false
 
 -- the last of some messages is younger than this one
 abbrev pub is_younger_last : Message → List Message → Bool

@@ -4,7 +4,7 @@ ghost use Rattle.std.specs.Prelude.{◌≡◌, ◌+◌, ◌<◌, ◌≤◌, [], 
 ghost use Rattle.std.specs.List.{prefix_len};
 ghost use Rattle.sim_base.specs.History.{insert_by_age};
 ghost use Rattle.links.specs.InFlight.{arrives_before, first_arrival};
-ghost use Rattle.links.specs.Buffers.{empty_buffer, IsByAge, due_of, HasYoungerBefore, NoneYoungerBefore, IsInserted, is_younger_last};
+ghost use Rattle.links.specs.Buffers.{empty_buffer, IsByAge, due_of, HasYoungerBefore, NoneYoungerBefore, IsInserted, is_last_due, is_younger_last};
 
 use sim_base::message::{Cycle, Message};
 use std::alloc::{AllocError, Global};
@@ -72,6 +72,13 @@ fn count_before(messages: &[Message], until: Cycle) -> usize
         .iter()
         .take_while(|message| message.arrival < until)
         .count()
+}
+
+/// Whether the last message of a list arrives before a cycle.
+fn is_last_due(messages: &[Message], until: Cycle) -> bool
+    ensures { result ≡ is_last_due until messages.now }
+{
+    messages.last().is_some_and(|last| last.arrival < until)
 }
 
 /// Whether a message goes before the last one of a list.
@@ -181,6 +188,10 @@ impl Buffer {
         ensures { result.now ≡ due_of until self.now.items }
     {
         let messages = self.as_slice();
+        // they stand by age: mostly all of them are due
+        if is_last_due(messages, until) {
+            return messages;
+        }
         &messages[..count_before(messages, until)]
     }
 

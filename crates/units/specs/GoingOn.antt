@@ -7,6 +7,7 @@
 --     links_taken machine place span links      the links when the unit at a place has taken what arrives in a span
 --     GoesOnOver machine place span unit_with_word old new      a unit has gone on, and what it sent is added
 --     WaitAllAt, WaitAllPast, HoldInboxesOver, links_taken_by, sent_over      the same of all units of a range
+--     IsCountOf s counts      how many cores and channels a machine has
 --     IsReceiver s link place, HasNoReceiver s link      the place of the unit that a link leads to; there is none
 --     GrowsBy count old new      `count` elements are put at the end of a list
 use Rattle.std.specs.Prelude.{◌≡◌, ℕ, ◌+◌, ◌<◌, false, List, length, filter, not}
@@ -21,6 +22,7 @@ use Rattle.units.specs.Wakes.{UnitWithWord, Waits, WaitAll, HoldsInbox, HoldInbo
 use Rattle.units.specs.declared.timed_unit.TimedUnit.{TimedUnit}
 use Rattle.units.specs.declared.timed_unit.Span.{Span}
 use Rattle.units.specs.declared.waking.UnitRange.{UnitRange}
+use Rattle.units.specs.declared.words.UnitCounts.{UnitCounts}
 
 -- the unit at a place waits where a span begins
 abbrev pub WaitsAt : Machine → ℕ → Span → UnitWithWord → Type 0
@@ -80,6 +82,11 @@ links_taken_by machine span range links =
 -- what the units of a range send in a span
 abbrev pub sent_over : Machine → Span → UnitRange → List Message
 sent_over machine span range = sent_by machine span.here span.until range.first (length range.units.items)
+
+-- how many cores and channels a machine has
+pub record IsCountOf (s : Config) (counts : UnitCounts) : Type 0 where
+  pub cores : counts.cores ≡ s.cores
+  pub channels : counts.channels ≡ s.channels
 
 -- the unit that a link leads to stands at a place
 abbrev pub IsReceiver : Config → ℕ → ℕ → Type 0

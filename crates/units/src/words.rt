@@ -5,7 +5,8 @@ ghost use Rattle.std.specs.List.Sorted.{IsPermutation};
 ghost use Rattle.links.specs.InFlight.{with_sent};
 ghost use Rattle.links.specs.Buffers.{buffer_of};
 ghost use Rattle.units.specs.Units.{unit_count};
-ghost use Rattle.units.specs.GoingOn.{IsReceiver, HasNoReceiver};
+ghost use Rattle.sim_base.specs.declared.config.Config.{Config};
+ghost use Rattle.units.specs.GoingOn.{IsReceiver, HasNoReceiver, IsCountOf};
 ghost use Rattle.units.specs.Wakes.{AreLowered, NoneIsLater, IsNoLaterAt, IsNoneSooner};
 
 use core_window::receive::channel_of;
@@ -46,16 +47,34 @@ pub fn receiver_place(config: &Config, link: LinkId) -> Option<usize>
     }
 }
 
-/// The place of the unit whose messages stand in a buffer of the links, if the machine has it.
-#[inline(always)]
-fn place_of_buffer(config: &Config, buffer: usize) -> Option<usize>
-    ensures some { (link : ℕ) → buffer ≡ buffer_of config.now.channels link
-        → IfSome result (IsReceiver config.now link) }
-    ensures none { (link : ℕ) → buffer ≡ buffer_of config.now.channels link
-        → IfNone result (HasNoReceiver config.now link) }
+/// How many cores a machine has, and how many channels.
+#[derive(Clone, Copy)]
+struct UnitCounts {
+    cores: u16,
+    channels: u16,
+}
+
+/// How many units of each kind a machine has.
+fn counts_of(config: &Config) -> UnitCounts
+    ensures { IsCountOf config.now result }
 {
-    let channels = usize::from(config.channels);
-    let cores = usize::from(config.cores);
+    UnitCounts {
+        cores: config.cores,
+        channels: config.channels,
+    }
+}
+
+/// The place of the unit whose messages stand in a buffer of the links, if the machine has it. The counts are handed
+/// over as numbers, so that they are read once for many messages.
+#[inline(always)]
+fn place_of_buffer(counts: UnitCounts, buffer: usize) -> Option<usize>
+    ensures some { (s : Config) (link : ℕ) → IsCountOf s counts
+        → buffer ≡ buffer_of s.channels link → IfSome result (IsReceiver s link) }
+    ensures none { (s : Config) (link : ℕ) → IsCountOf s counts
+        → buffer ≡ buffer_of s.channels link → IfNone result (HasNoReceiver s link) }
+{
+    let channels = usize::from(counts.channels);
+    let cores = usize::from(counts.cores);
     if buffer < channels {
         return Some(cores + buffer);
     }
@@ -93,12 +112,13 @@ fn take_up_each(
     ensures lowered { OnOk result (AreLowered config.now first sent.now words.old words.new) }
     ensures links { OnOk result (links.new ≡ with_sent links.old sent.now) }
 {
+    let counts = counts_of(config);
     for message in sent {
         let buffer = links.put(message)?;
         lower(
             first,
             words,
-            place_of_buffer(config, buffer),
+            place_of_buffer(counts, buffer),
             message.arrival,
         );
     }

@@ -14,6 +14,6 @@ loop-message-preserved c =
     record {
       lowered = lowered-next c.args.config.now c.args.first at.message-index _ c.args.sent.now place.result c.args.words.now at.words c.lower.new.words c.requires.within less
           at.invariant.lowered
-          (record { some = place.ensures.some _ buffer; none = place.ensures.none _ buffer; count = low.count; less = low.less; arrival = low.arrival; since = low.since });
+          (record { some = place.ensures.some c.args.config.now _ c.counts_of-counts.ensures buffer; none = place.ensures.none c.args.config.now _ c.counts_of-counts.ensures buffer; count = low.count; less = low.less; arrival = low.arrival; since = low.since });
       links = sent-next c.args.links.now at.links c.put.new.self at.message-index _ c.args.sent.now less at.invariant.links put.ok;
     }
