@@ -52,7 +52,7 @@ impl Compact {
         if operands.column > 0x3ff || rank > 3 || group > 3 || bank > 3 {
             return None;
         }
-        if row.channel > 0xff || core > 0xff {
+        if row.channel > 0xff || u32::from(core) > 0xff {
             return None;
         }
         Some(Compact {

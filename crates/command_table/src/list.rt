@@ -126,7 +126,9 @@ impl CommandList {
         if let Storage::Compact(rows) = &mut self.kept
             && let Some(compact) = Compact::of(row)
         {
-            return Ok(rows.push(compact)?);
+            rows.reserve(1)?;
+            rows.push_reserved(compact);
+            return Ok(());
         }
         self.push_whole(row)
     }

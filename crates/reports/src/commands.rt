@@ -50,7 +50,8 @@ fn bank_fields(number: u32) -> [u8; 4]
     }
 }
 
-// The fields of a group and of a bank before the others. They are put at once where they have one digit each.
+// The fields of a group and of a bank before the others. They are put at once where both are below 4, as in every
+// machine.
 #[inline(always)]
 fn put_bank(line: &mut Line, end: usize, bank: &BankId) -> usize
     requires { (42 ≤ end) × (end ≤ 256) }
@@ -65,7 +66,7 @@ fn put_bank(line: &mut Line, end: usize, bank: &BankId) -> usize
     put_great_bank(line, end, bank)
 }
 
-// The fields of a group and of a bank before the others, of which one has several digits, as none of a machine has.
+// The fields of a group and of a bank before the others, of which one is 4 or more, as none of a machine is.
 #[inline(never)]
 fn put_great_bank(line: &mut Line, end: usize, bank: &BankId) -> usize
     requires { (42 ≤ end) × (end ≤ 256) }
