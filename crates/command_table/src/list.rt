@@ -126,9 +126,7 @@ impl CommandList {
         if let Storage::Compact(rows) = &mut self.kept
             && let Some(compact) = Compact::of(row)
         {
-            rows.reserve(1)?;
-            rows.push_reserved(compact);
-            return Ok(());
+            return Ok(rows.push(compact)?);
         }
         self.push_whole(row)
     }
