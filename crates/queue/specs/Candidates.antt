@@ -2,7 +2,9 @@
 --     asks bank access r      a request asks to write to a bank, or to read from it
 --     asks_at bank access log place      the request at a place asks to write to a bank, or to read from it
 --     hits bank access row r      a request asks for a bank and an access, and for the row that is open in the bank
+--     asks_row row r      a request asks for this row, if one is given
 --     wants bank access row r      a request asks for a bank and an access, and for this row if one is given
+--     HasFewBanks log      each request asks for one of the first 64 banks
 --     RowsFit requests      each request asks for a row whose number has 32 bits
 --     first_place test log      the place of the first request that may be served and passes a test
 --     NonePasses test log      no request that waits passes a test
@@ -12,7 +14,7 @@
 --     access_count number requests      how many requests ask for a bank and an access
 --     NoneWaits log bank access      no request that waits asks for a bank and an access
 --     AreCandidates log bank candidates      a bank's candidates are its first requests that may be served, by place
-use Rattle.std.specs.Prelude.{◌≡◌, ℕ, ◌+◌, ◌*◌, ◌^◌, ◌<◌, ◌==◌, Bool, false, ◌&&◌, List, All, count_by, slice_index_or, position, Option, Some, None}
+use Rattle.std.specs.Prelude.{◌≡◌, ℕ, ◌+◌, ◌*◌, ◌^◌, ◌<◌, ◌==◌, Bool, false, true, ◌&&◌, List, All, count_by, slice_index_or, position, Option, Some, None}
 use Rattle.std.specs.List.{zip}
 use Rattle.sim_base.specs.Access.{is_access}
 use Rattle.sim_base.specs.declared.message.Access.{Access}
@@ -40,10 +42,19 @@ asks_at bank access log place = asks bank access (slice_index_or log place absen
 abbrev pub hits : ℕ → Access → Option ℕ → Request → Bool
 hits bank access row r = asks bank access r && is_row r.place.row row
 
+-- a request asks for a row, if one is given
+abbrev pub asks_row : Option ℕ → Request → Bool
+asks_row None r = true
+asks_row (Some row) r = r.place.row == row
+
 -- a request asks to write to a bank, or to read from it, and for a row if one is given
 abbrev pub wants : ℕ → Access → Option ℕ → Request → Bool
 wants bank access None r = asks bank access r
 wants bank access (Some row) r = asks bank access r && (r.place.row == row)
+
+-- each request asks for one of the first 64 banks, so that the number modulo 64 tells which
+abbrev pub HasFewBanks : List Arrived → Type 0
+HasFewBanks log = All (λ r. bank_number r.place < 64) (all_requests log)
 
 -- each request asks for a row whose number has 32 bits
 abbrev pub RowsFit : List Request → Type 0

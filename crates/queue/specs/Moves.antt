@@ -7,7 +7,7 @@ use Rattle.std.specs.Prelude.{◌≡◌, ℕ, ◌<◌, nat_lt, Bool, false, List
 use Rattle.sim_base.specs.declared.message.Access.{Access}
 use Rattle.sim_base.specs.declared.message.Request.{Request}
 use Rattle.queue.specs.declared.request_log.Arrived.{Arrived}
-use Rattle.queue.specs.Candidates.{asks, hits, passes, marked_requests, first_place}
+use Rattle.queue.specs.Candidates.{HasFewBanks, asks, hits, passes, marked_requests, first_place}
 
 -- a place `k`, if it stands before `place`
 abbrev pub before : ℕ → Option ℕ → Option ℕ
@@ -26,7 +26,7 @@ abbrev pub IsFirstFrom : (Request → Bool) → List Arrived → ℕ → Option 
 IsFirstFrom test log from found = NonePassesBefore test log from → found ≡ first_place test log
 
 -- The first request of a bank and an access that may be served and asks for the open row `row`, where `oldest` is the
--- first one that may be served, whatever row it asks for.
+-- first one that may be served, whatever row it asks for, and all ask for the first 64 banks.
 abbrev pub IsFirstHit : List Arrived → ℕ → Access → Option ℕ → Option ℕ → Option ℕ → Type 0
 IsFirstHit log bank access row oldest hit =
-    oldest ≡ first_place (asks bank access) log → hit ≡ first_place (hits bank access row) log
+    HasFewBanks log → oldest ≡ first_place (asks bank access) log → hit ≡ first_place (hits bank access row) log

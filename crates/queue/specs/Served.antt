@@ -16,7 +16,7 @@ use Rattle.queue.specs.Log.{absent, served_at, waits_at, eligible_column, marks_
 use Rattle.queue.specs.declared.bank_candidates.entry.AccessCandidates.{AccessCandidates}
 use Rattle.queue.specs.declared.bank_candidates.candidate_words.Departure.{Departure}
 use Rattle.queue.specs.declared.bank_candidates.candidate_words.CandidateWords.{CandidateWords}
-use Rattle.queue.specs.Candidates.{asks, asks_at, hits, wants, first_place, AreFirst, NoneWaits}
+use Rattle.queue.specs.Candidates.{HasFewBanks, asks, asks_at, hits, wants, first_place, AreFirst, NoneWaits}
 use Rattle.queue.specs.Changes.{candidate_at, candidates_at}
 use Rattle.sim_base.specs.Earlier.{earlier}
 
@@ -66,12 +66,13 @@ is_asked_like log departure = asks_at departure.bank departure.access log depart
 
 -- A request has been served, after which the log is this one, and it is no longer among the candidates of its bank and
 -- access, where this row is open: if they were the first ones of the log before, they are the first ones of this log,
--- once a request that may be served since then is taken in, if there is one. Where the departure says that the bank and
--- the access are empty, no request that waits asks for them.
+-- once a request that may be served since then is taken in, if there is one. All ask for the first 64 banks. Where the
+-- departure says that the bank and the access are empty, no request that waits asks for them.
 abbrev pub HasDeparted : CandidateWords → CandidateWords → List Arrived → Departure → Option ℕ → Type 0
 HasDeparted old new log departure row =
     (earlier : List Arrived) (unblocked : Option ℕ)
     → IsServed earlier departure.place unblocked log
+    → HasFewBanks log
     → (departure.empty ≡ true → NoneWaits log departure.bank departure.access)
     → AreFirst earlier departure.bank departure.access row (candidates_for old departure)
     → AreFirstWithout departure log row unblocked (candidates_for new departure)

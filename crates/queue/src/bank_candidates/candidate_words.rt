@@ -112,7 +112,7 @@ pub(crate) struct Departure {
 impl CandidateWords {
     ghost use Rattle.std.specs.Prelude.{ℕ, ◌≡◌, ◌≢◌, ◌+◌, ◌*◌, ◌<◌, ◌≤◌, ◌^◌, ◌-◌, true, false, not, length, Option, Some, is_some, IfOk};
     ghost use Rattle.queue.specs.Sets.{is_in};
-    ghost use Rattle.queue.specs.Candidates.{AreFirst};
+    ghost use Rattle.queue.specs.Candidates.{AreFirst, HasFewBanks};
     ghost use Rattle.queue.specs.Moves.{IsFirstFrom};
     ghost use Rattle.queue.specs.Changes.{HasWordsOf, candidate_at, candidates_at, first_at, HasNoCandidate};
     ghost use Rattle.queue.specs.Changes.{SameRoom, SameCandidate, SameOthers, SameOtherBanks};
@@ -256,7 +256,7 @@ impl CandidateWords {
         requires bank { HasWordsOf self.old bank }
         requires log { length log.now.log < 2 ^ 16 - 1 }
         ensures room { SameRoom self.old self.new }
-        ensures own { (old : Option ℕ)
+        ensures own { (old : Option ℕ) → HasFewBanks log.now.log
             → AreFirst log.now.log bank access old (candidates_at self.old bank access)
             → AreFirst log.now.log bank access (Some row) (candidates_at self.new bank access) }
         ensures others { SameOthers self.old self.new bank access }
@@ -277,7 +277,7 @@ impl CandidateWords {
         ensures kept { candidate_for self.old departure hit ≢ Some departure.place
             → SameCandidate self.old self.new departure.bank departure.access hit }
         ensures found { candidate_for self.old departure hit ≡ Some departure.place
-            → is_asked_like log.now.log departure ≡ true
+            → HasFewBanks log.now.log → is_asked_like log.now.log departure ≡ true
             → IsFirstFrom (wants_like departure row) log.now.log (departure.place + 1)
             (candidate_for self.new departure hit) }
         ensures beside { SameCandidate self.old self.new departure.bank departure.access (not hit) }
@@ -346,7 +346,8 @@ impl CandidateWords {
         requires bank { HasWordsOf self.old bank }
         requires log { length log.now.log < 2 ^ 16 - 1 }
         ensures room { SameRoom self.old self.new }
-        ensures own { AreFirst log.now.log bank access row (candidates_at self.new bank access) }
+        ensures own { HasFewBanks log.now.log
+            → AreFirst log.now.log bank access row (candidates_at self.new bank access) }
         ensures others { SameOthers self.old self.new bank access }
     {
         let oldest = first_from(log, 0, bank, access, None);

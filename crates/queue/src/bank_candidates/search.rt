@@ -1,7 +1,7 @@
 //! Searches for the first request of a bank and an access.
 
 ghost use Rattle.std.specs.Prelude.{◌≡◌, ◌+◌, ◌-◌, ◌<◌, ◌^◌, true, false, length, Some, IfSome};
-ghost use Rattle.queue.specs.Candidates.{asks_at, wants, NonePasses};
+ghost use Rattle.queue.specs.Candidates.{asks_at, asks_row, wants, HasFewBanks, NonePasses};
 ghost use Rattle.queue.specs.Moves.{IsFirstFrom, IsFirstHit};
 
 use crate::request_log::RequestLog;
@@ -18,6 +18,17 @@ fn is_wanted(request: &Request, bank: usize, access: Access, row: Option<u32>) -
     match row {
         Some(row) => same_bank && request.place.row == row,
         None => same_bank,
+    }
+}
+
+/// Whether a request asks for a row, if one is given.
+#[inline(always)]
+fn asks_row(request: &Request, row: Option<u32>) -> bool
+    ensures { result ≡ asks_row row request.now }
+{
+    match row {
+        Some(row) => request.place.row == row,
+        None => true,
     }
 }
 
@@ -66,7 +77,8 @@ pub(crate) fn first_from(
 }
 
 /// The first request behind a place that may be served, is of a bank and an access, and asks for a row if one is given;
-/// the request at the place is of that bank and access, so that the search goes from each such request to the next.
+/// the request at the place is of that bank and access, so that the search goes from each such request to the next. All
+/// ask for the first 64 banks, of which the chains tell each from the others, so that a bank need not be compared.
 #[inline(always)]
 pub(crate) fn first_behind(
     log: &RequestLog,
@@ -76,7 +88,7 @@ pub(crate) fn first_behind(
     row: Option<u32>,
 ) -> Option<usize>
     requires { place < length log.now.log }
-    ensures first { asks_at bank access log.now.log place ≡ true
+    ensures first { HasFewBanks log.now.log → asks_at bank access log.now.log place ≡ true
         → IsFirstFrom (wants bank access row) log.now.log (place + 1) result }
     ensures within { IfSome result (λ k. k < length log.now.log) }
 {
@@ -85,7 +97,7 @@ pub(crate) fn first_behind(
     }
     let mut alike = log.next_alike(place);
     while let Some(next) = alike {
-        if log.is_eligible(next) && is_wanted(&log.log()[next].request, bank, access, row) {
+        if log.is_eligible(next) && asks_row(&log.log()[next].request, row) {
             return Some(next);
         }
         alike = log.next_alike(next);

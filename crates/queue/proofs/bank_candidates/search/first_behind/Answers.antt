@@ -5,12 +5,12 @@ use Rattle.queue.specs.Marks.{is_marked}
 use Rattle.queue.specs.Log.{absent, eligible_column}
 use Rattle.queue.specs.Candidates.{wants}
 use Rattle.queue.proofs.Searches.{none_waits}
-use Rattle.queue.proofs.Behind.{left_to_meet, met, exists, fewer, found-met, other-wanted, passed, none-met}
+use Rattle.queue.proofs.Behind.{left_to_meet, met, exists, fewer, found-met, other-row, passed, none-met}
 use Rattle.queue.proofs.bank_candidates.search.first_behind.Goals as goal
-use Rattle.queue.proofs.bank_candidates.search.first_behind.Goals.{else-is_eligible-via-then-is_eligible+else-is_wanted, else-is_eligible-via-else-is_eligible}
+use Rattle.queue.proofs.bank_candidates.search.first_behind.Goals.{else-is_eligible-via-then-is_eligible+else-asks_row, else-is_eligible-via-else-is_eligible}
 
 pub returns-then-not-may_be_wanted-clause-first : goal.returns-then-not-may_be_wanted-clause-first
-returns-then-not-may_be_wanted-clause-first c asked before =
+returns-then-not-may_be_wanted-clause-first c few asked before =
     none_waits (wants c.args.bank c.args.access c.args.row) c.args.log.now.log (c.may_be_wanted.ensures c.if-not-may_be_wanted.true)
 
 pub loop-alike-init : goal.loop-alike-init
@@ -31,15 +31,15 @@ bounds-log-next c =
     let ahead = met c.args.log.now.log c.args.bank c.args.access c.args.row c.args.place c.in-Some.next c.loop-alike.alike c.loop-alike.invariant c.in-Some.is in
     omega (arith, exists c.args.log.now.log c.args.bank c.args.access c.args.row c.args.place c.in-Some.next ahead, ap length c.log.ensures.log)
 
-pub returns-then-is_wanted-clause-first : goal.returns-then-is_wanted-clause-first
-returns-then-is_wanted-clause-first c asked before =
+pub returns-then-asks_row-clause-first : goal.returns-then-asks_row-clause-first
+returns-then-asks_row-clause-first c few asked before =
     let log = c.args.log.now.log in
     let ahead = met log c.args.bank c.args.access c.args.row c.args.place c.in-Some.next c.loop-alike.alike c.loop-alike.invariant c.in-Some.is in
-    found-met log c.log.result.now c.args.bank c.args.access c.args.row c.args.place c.in-Some.next _ c.is_eligible.result c.is_wanted.result c.requires ahead c.log.ensures.log c.is_eligible.ensures
-    c.is_wanted.ensures c.if-is_eligible.true c.if-is_wanted.true asked before
+    found-met log c.log.result.now c.args.bank c.args.access c.args.row c.args.place c.in-Some.next _ c.is_eligible.result c.asks_row.result c.requires ahead c.log.ensures.log c.is_eligible.ensures
+    c.asks_row.ensures c.if-is_eligible.true c.if-asks_row.true few asked before
 
-pub returns-then-is_wanted-clause-within : goal.returns-then-is_wanted-clause-within
-returns-then-is_wanted-clause-within c =
+pub returns-then-asks_row-clause-within : goal.returns-then-asks_row-clause-within
+returns-then-asks_row-clause-within c =
     exists c.args.log.now.log c.args.bank c.args.access c.args.row c.args.place c.in-Some.next
     (met c.args.log.now.log c.args.bank c.args.access c.args.row c.args.place c.in-Some.next c.loop-alike.alike c.loop-alike.invariant c.in-Some.is)
 
@@ -64,11 +64,11 @@ loop-alike-preserved c =
     let within = exists log c.args.bank c.args.access c.args.row c.args.place next ahead in
     let mark = is_marked (get_or (eligible_column log) next 0) in
     passed log c.args.bank c.args.access c.args.row c.args.place next c.next_alike-alike-in-Some.result c.requires ahead c.next_alike-alike-in-Some.ensures (elim c.else-is_eligible.branch [
-      | else-is_eligible-via-then-is_eligible+else-is_wanted w ↦
-          ap (λ b. mark && b) (other-wanted test log w.log.result.now next _ w.is_wanted.result within w.log.ensures.log w.is_wanted.ensures w.if-is_wanted.false) ∙ and-false mark
+      | else-is_eligible-via-then-is_eligible+else-asks_row w ↦
+          ap (λ b. mark && b) (other-row log w.log.result.now c.args.bank c.args.access c.args.row next _ w.asks_row.result within w.log.ensures.log w.asks_row.ensures w.if-asks_row.false) ∙ and-false mark
       | else-is_eligible-via-else-is_eligible w ↦ ap (λ b. b && test (get_or log next absent).request) (sym c.is_eligible.ensures ∙ w.if-is_eligible.false)
     ])
 
 pub returns-clause-first : goal.returns-clause-first
-returns-clause-first c asked before =
+returns-clause-first c few asked before =
     none-met c.args.log.now.log c.args.bank c.args.access c.args.row c.args.place c.loop-alike.alike c.requires c.loop-alike.invariant c.in_default.is asked before

@@ -1,13 +1,14 @@
 -- The request's counter falls, and the candidates of its bank and access leave it.
-use Rattle.std.proofs.Common.{◌≡◌, ℕ, ◌-◌, ◌<◌, true, false, eqb, length, get_or, set, Option, None, sym, ap, subst, ◌∙◌, arith}
+use Rattle.std.proofs.Common.{◌≡◌, ℕ, ◌-◌, ◌<◌, All, true, false, eqb, length, get_or, set, Option, None, sym, ap, subst, ◌∙◌, arith}
 use Rattle.std.proofs.lemmas.Bool.{eqb-true}
 use Rattle.std.proofs.lemmas.List.{get_or_default, length-set, get_or-set_same}
 use Rattle.sim_base.specs.declared.message.Access.{Access}
 use Rattle.sim_base.specs.declared.message.Request.{Request}
 use Rattle.queue.specs.declared.request_log.Arrived.{Arrived}
-use Rattle.queue.specs.Log.{absent, waiting_requests}
+use Rattle.queue.specs.Log.{absent, all_requests, waiting_requests}
 use Rattle.queue.specs.Columns.{bank_number}
-use Rattle.queue.specs.Candidates.{AreFirst, access_number, access_number_of, access_count}
+use Rattle.queue.specs.Candidates.{AreFirst, HasFewBanks, access_number, access_number_of, access_count}
+use Rattle.queue.proofs.Places.{all_served}
 use Rattle.queue.specs.Served.{AreFirstWith}
 use Rattle.queue.specs.Words.{access_in}
 use Rattle.queue.proofs.BankCandidatesCounted.{AreCounted, counted_served, number_below}
@@ -57,7 +58,9 @@ returns-clause-stands c earlier unblocked open_rows served stands =
     ∙ get_or-set_same counts (access_number_of r) left 0 below ∙ eqb-true left 0 on in
     let first : AreFirst earlier bank read.access row (access_in was (access_number bank read.access)) =
     renamed (λ n w o. AreFirst earlier n w o (access_in was (access_number n w))) own bank r.access read.access (open_rows own) row (sym number) (sym access_is) (sym row_is) (parts.first own r.access exists) in
+    let few : HasFewBanks log =
+    subst (All (λ (x : Request). bank_number x.place < 64)) (sym (ap all_requests served.log_is ∙ all_served earlier place)) (λ k d there. omega (arith, stands.within k d there, old.few)) in
     left_stand _ was earlier log place unblocked open_rows served
     (renamed (λ n w o. AreFirstWith log n w o unblocked (access_in now (access_number n w))) bank own read.access r.access row (open_rows own) number access_is row_is
-    (c.leave.ensures.own earlier unblocked served none first))
+    (c.leave.ensures.own earlier unblocked served few none first))
     (λ number apart. c.leave.ensures.others number (λ e. apart (e ∙ key_is))) parts counted

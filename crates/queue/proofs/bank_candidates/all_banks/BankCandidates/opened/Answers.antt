@@ -1,9 +1,9 @@
 -- The first request for the row is found, to read and to write.
-use Rattle.std.proofs.Common.{◌≡◌, ℕ, ◌*◌, ◌<◌, ◌≤◌, Some, length, set, sym, ap, subst, ◌∙◌}
+use Rattle.std.proofs.Common.{◌≡◌, ℕ, ◌*◌, ◌<◌, ◌≤◌, Some, length, set, sym, ap, subst, ◌∙◌, arith}
 use Rattle.std.proofs.lemmas.List.{length-set}
 use Rattle.sim_base.specs.declared.message.Access.TheVariants as access
 use Rattle.sim_base.specs.declared.message.Access.{Access}
-use Rattle.queue.specs.Candidates.{AreFirst, access_number}
+use Rattle.queue.specs.Candidates.{AreFirst, HasFewBanks, access_number}
 use Rattle.queue.specs.Words.{access_in}
 use Rattle.queue.specs.Stands.{with_row}
 use Rattle.queue.proofs.OneBank.{number_bank, numbers_apart}
@@ -31,11 +31,12 @@ returns-clause-stands c open_rows stands =
     let exists : number < length old.rows.items = subst (λ n. n < length old.rows.items) (sym c.number-number.ensures) c.requires in
     let words = c.open-2.new.self.words.items in
     let parts = to_parts old log open_rows stands in
+    let few : HasFewBanks log = λ k d there. omega (arith, stands.within k d there, old.few) in
     let reads : AreFirst log number access.Read row (access_in words (access_number number access.Read)) =
     subst (AreFirst log number access.Read row) (sym (c.open-2.ensures.others (access_number number access.Read) (numbers_apart number)))
-    (c.open.ensures.own (open_rows number) (parts.first number access.Read exists)) in
+    (c.open.ensures.own (open_rows number) few (parts.first number access.Read exists)) in
     let writes : AreFirst log number access.Write row (access_in words (access_number number access.Write)) =
-    c.open-2.ensures.own (open_rows number)
+    c.open-2.ensures.own (open_rows number) few
     (subst (AreFirst log number access.Write (open_rows number)) (sym (c.open.ensures.others (access_number number access.Write) (λ e. numbers_apart number (sym e)))) (parts.first number access.Write exists)) in
     let own : (access : Access) → AreFirst log number access row (access_in words (access_number number access)) =
     λ a. elim a as (λ w. AreFirst log number w row (access_in words (access_number number w))) [ access.Write ↦ writes | access.Read ↦ reads ] in

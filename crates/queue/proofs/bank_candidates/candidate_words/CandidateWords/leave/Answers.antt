@@ -41,7 +41,7 @@ hits-ask : (bank : ℕ) (access : Access) (row : Option ℕ) (r : Request) → h
 hits-ask bank access row r is = (and_parts (asks bank access r) (is_row r.place.row row) is).0
 
 pub returns-then-empty-clause-own : goal.returns-then-empty-clause-own
-returns-then-empty-clause-own c was unblocked served empty first =
+returns-then-empty-clause-own c was unblocked served few empty first =
     let bank = c.args.departure.bank in
     let access = c.args.departure.access in
     let row = c.args.row in
@@ -57,7 +57,7 @@ returns-then-empty-clause-own c was unblocked served empty first =
 
 -- where the request was both, the hit that is left stands where the oldest one does, or behind it
 pub returns-then-is_at-2-clause-own : goal.returns-then-is_at-2-clause-own
-returns-then-is_at-2-clause-own c was unblocked served empty first =
+returns-then-is_at-2-clause-own c was unblocked served few empty first =
     let bank = c.args.departure.bank in
     let access = c.args.departure.access in
     let row = c.args.row in
@@ -66,7 +66,7 @@ returns-then-is_at-2-clause-own c was unblocked served empty first =
     let oldest_there = c.is_at.ensures.there c.if-is_at.true in
     let hit_there = c.is_at-then-is_at.ensures.there c.if-is_at-2.true in
     let oldest =
-    c.first_behind-oldest.ensures.first (asked (asks bank access) bank access was log place unblocked (λ r h. h) served (sym oldest_there ∙ first.oldest_is))
+    c.first_behind-oldest.ensures.first few (asked (asks bank access) bank access was log place unblocked (λ r h. h) served (sym oldest_there ∙ first.oldest_is))
     (none_left (asks bank access) was log place unblocked served (sym first.oldest_is ∙ oldest_there)) in
     record {
       oldest_is =
@@ -74,11 +74,11 @@ returns-then-is_at-2-clause-own c was unblocked served empty first =
           (λ there none. ap (λ x. x.oldest) c.set_both-then-is_at-2.ensures.same ∙ oldest);
       hit_is =
           left_candidate (hits bank access row) was log place unblocked _ _ served first.hit_is (λ apart. absurd (apart hit_there))
-          (λ there none. ap (λ x. x.hit) c.set_both-then-is_at-2.ensures.same ∙ c.first_hit-hit.ensures.first oldest);
+          (λ there none. ap (λ x. x.hit) c.set_both-then-is_at-2.ensures.same ∙ c.first_hit-hit.ensures.first few oldest);
     }
 
 pub returns-clause-own : goal.returns-clause-own
-returns-clause-own c was unblocked served empty first =
+returns-clause-own c was unblocked served few empty first =
     let bank = c.args.departure.bank in
     let access = c.args.departure.access in
     let row = c.args.row in
@@ -89,8 +89,8 @@ returns-clause-own c was unblocked served empty first =
     record {
       oldest_is =
           left_candidate (asks bank access) was log place unblocked _ _ served first.oldest_is (λ apart. hit.beside ∙ oldest.kept apart)
-          (λ there none. hit.beside ∙ oldest.found there (asked (asks bank access) bank access was log place unblocked (λ r h. h) served (sym there ∙ first.oldest_is)) none);
+          (λ there none. hit.beside ∙ oldest.found there few (asked (asks bank access) bank access was log place unblocked (λ r h. h) served (sym there ∙ first.oldest_is)) none);
       hit_is =
           left_hit bank access row was log place unblocked _ _ served (oldest.beside ∙ first.hit_is) hit.kept
-          (λ there none. hit.found there (asked (hits bank access row) bank access was log place unblocked (hits-ask bank access row) served (sym there ∙ oldest.beside ∙ first.hit_is)) none);
+          (λ there none. hit.found there few (asked (hits bank access row) bank access was log place unblocked (hits-ask bank access row) served (sym there ∙ oldest.beside ∙ first.hit_is)) none);
     }
