@@ -156,7 +156,8 @@ impl Banks {
     pub fn note_act(&mut self, bank: BankId, cycle: Cycle)
         requires rank { bank.rank < rank_count self.old }
         requires cycle { cycle < 2 ^ 62 }
-        ensures stands { (s : Config) (history : List IssuedCommand) (channel row : ℕ) (source : Source)
+        ensures stands { (s : Config) (history : List IssuedCommand)
+            → (channel row : ℕ) (source : Source)
             → StandsFor self.old s history → All (λ i. i.cycle < cycle) history
             → StandsFor self.new s
             (followed_by history channel cycle (Command.Act bank row source)) }
@@ -206,7 +207,8 @@ impl Banks {
     pub fn note_rd(&mut self, bank: BankId, cycle: Cycle)
         requires rank { bank.rank < rank_count self.old }
         requires cycle { cycle < 2 ^ 62 }
-        ensures stands { (s : Config) (history : List IssuedCommand) (channel row column : ℕ) (source : Source)
+        ensures stands { (s : Config) (history : List IssuedCommand)
+            → (channel row column : ℕ) (source : Source)
             → StandsFor self.old s history → All (λ i. i.cycle < cycle) history
             → StandsFor self.new s
             (followed_by history channel cycle (Command.Rd bank row column source)) }
@@ -220,7 +222,8 @@ impl Banks {
     pub fn note_wr(&mut self, bank: BankId, cycle: Cycle)
         requires rank { bank.rank < rank_count self.old }
         requires cycle { cycle < 2 ^ 62 }
-        ensures stands { (s : Config) (history : List IssuedCommand) (channel row column : ℕ) (source : Source)
+        ensures stands { (s : Config) (history : List IssuedCommand)
+            → (channel row column : ℕ) (source : Source)
             → StandsFor self.old s history → All (λ i. i.cycle < cycle) history
             → StandsFor self.new s
             (followed_by history channel cycle (Command.Wr bank row column source)) }
