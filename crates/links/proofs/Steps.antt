@@ -347,3 +347,24 @@ all_due until ms h is = pick (slice_get ms (length ms - 1)) refl is
     pick : (o : Option Message) → slice_get ms (length ms - 1) ≡ o → option_map_or (arrives_before until) o false ≡ true → filter (arrives_before until) ms ≡ ms
     pick None e is = absurd (true≢false (sym is))
     pick (Some last) e is = due-all until ms last (in_order-Sorted ms h) e (ltb-true last.arrival until is)
+
+-- where a message does not go before the last of some others, that one arrives no later
+pub some_no_later : (m : Message) (free : ℕ) (ms places : List Message) → free ≤ length places → (free ≡ length places → free ≡ 0) → ms ≡ drop free places → by_age ms ≡ ms
+    → is_younger_last m ms ≡ false → 0 < length places → 0 < length (filter (arrives_before (m.arrival + 1)) ms)
+some_no_later m free ms places l none e s young some =
+    let long : 0 < length ms = omega (arith, ap length e, length-drop free places, l, some, empty-free (cases_lt free (length places))) in
+    subst (λ xs. 0 < length xs) (sym (all_due (m.arrival + 1) ms s (pick (slice_get ms (length ms - 1)) refl (slice_get-get_or ms (length ms - 1) m (omega (arith, long))) young))) long
+  where
+    empty-free : (free < length places) ⊎ (length places ≤ free) → free < length places
+    empty-free (inl less) = less
+    empty-free (inr over) =
+        let all : free ≡ length places = omega (arith, l, over) in
+        let zero_free : free ≡ 0 = none all in
+        omega (arith, zero_free, some)
+
+    pick : (o : Option Message) → slice_get ms (length ms - 1) ≡ o → slice_get ms (length ms - 1) ≡ Some (get_or ms (length ms - 1) m) → option_map_or (is_before m) (slice_get ms (length ms - 1)) false ≡ false
+        → option_map_or (arrives_before (m.arrival + 1)) (slice_get ms (length ms - 1)) false ≡ true
+    pick None e there young = let bad : None ≡ Some (get_or ms (length ms - 1) m) = sym e ∙ there in absurd (cc bad)
+    pick (Some last) e there young =
+        let before : is_before m last ≡ false = ap (λ o. option_map_or (is_before m) o false) (sym e) ∙ young in
+        ap (λ o. option_map_or (arrives_before (m.arrival + 1)) o false) e ∙ lt-ltb last.arrival (m.arrival + 1) (omega (arith, not_before_le m last before))

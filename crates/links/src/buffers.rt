@@ -4,7 +4,8 @@ ghost use Rattle.std.specs.Prelude.{◌≡◌, ◌+◌, ◌<◌, ◌≤◌, [], 
 ghost use Rattle.std.specs.List.{prefix_len};
 ghost use Rattle.sim_base.specs.History.{insert_by_age};
 ghost use Rattle.links.specs.InFlight.{arrives_before, first_arrival};
-ghost use Rattle.links.specs.Buffers.{empty_buffer, IsByAge, due_of, HasYoungerBefore, NoneYoungerBefore, IsInserted, is_last_due, is_younger_last};
+ghost use Rattle.links.specs.Buffers.{empty_buffer, IsByAge, due_of, HasNoLater, HasYoungerBefore, NoneYoungerBefore, IsInserted, is_last_due, is_younger_last};
+ghost use Rattle.links.specs.declared.buffers.Placed.TheVariants as Placed;
 
 use sim_base::message::{Cycle, Message};
 use std::alloc::{AllocError, Global};
@@ -61,6 +62,26 @@ fn insert_from_back(messages: &mut [Message], message: &Message)
         place -= 1;
     }
     messages[place] = *message;
+}
+
+/// Where a message was put among those of its buffer.
+#[derive(Clone, Copy)]
+pub enum Placed {
+    /// Where it may be the next one that arrives.
+    MayBeNext,
+    /// Behind one that arrives no later.
+    Behind,
+}
+
+/// Where a message is put that goes behind all of a list.
+fn placed_last(messages: &[Message]) -> Placed
+    ensures { result ≡ Placed.Behind → 0 < length messages.now }
+{
+    if messages.is_empty() {
+        Placed::MayBeNext
+    } else {
+        Placed::Behind
+    }
 }
 
 /// How many messages at the head of a list arrive before a cycle.
@@ -158,19 +179,23 @@ impl Buffer {
     }
 
     /// Puts a message into its place by age, which is the last one unless a younger one stands there. Places that are
-    /// free stand before all messages, so that the last place is that of the last message.
+    /// free stand before all messages, so that the last place is that of the last message. Tells whether it is known
+    /// that one before it arrives no later.
     #[inline(always)]
-    pub fn put_by_age(&mut self, message: &Message)
+    pub fn put_by_age(&mut self, message: &Message) -> Placed
         requires room { length self.old.items < self.old.capacity }
         requires in_order { IsByAge self.old.items }
         ensures items { self.new.items ≡ insert_by_age self.old.items message.now }
         ensures capacity { self.new.capacity ≡ self.old.capacity }
+        ensures behind { result ≡ Placed.Behind → HasNoLater self.old.items message.now }
     {
         if is_before_last(&self.places, message) {
             self.put_among(message);
-        } else {
-            self.places.push_reserved(*message);
+            return Placed::MayBeNext;
         }
+        let placed = placed_last(&self.places);
+        self.places.push_reserved(*message);
+        placed
     }
 
     /// When the first message arrives.

@@ -1,14 +1,15 @@
 //! The messages in flight.
 
-ghost use Rattle.std.specs.Prelude.{◌≡◌, ◌+◌, ◌<◌, ◌^◌, ◌≤◌, nat_lt, [], ◌∷◌, length, drop, slice_set, fold, ◌==◌, true, false, ◌↔◌, IsTrue, IsNone, IfSome, IfOk, OnOk, OnErr, IsOkAnd};
+ghost use Rattle.std.specs.Prelude.{◌≡◌, ◌+◌, ◌<◌, ◌^◌, ◌≤◌, nat_lt, [], ◌∷◌, length, drop, slice_set, fold, ◌==◌, true, false, ◌↔◌, IsTrue, IsNone, IfNone, IfSome, IfOk, OnOk, OnErr, IsOkAnd};
 ghost use Rattle.sim_base.specs.History.{insert_by_age};
 ghost use Rattle.sim_base.specs.declared.message.Unit.{Unit as MachineUnit};
 ghost use Rattle.std.specs.List.{list_all, list_any};
 ghost use Rattle.std.specs.List.Sorted.{IsPermutation};
 ghost use Rattle.links.specs.InFlight.{nothing_in_flight, with_sent, due_before, without_due, in_flight_to, first_arrival, NoneArrivesBefore, SomeAt};
-ghost use Rattle.links.specs.Buffers.{buffer_of, number_of_replies, in_buffer, due_in_buffer, without_due_in, replies_due, credits_due, contents, buffer_messages, buffer_messages_at, IsByAge, earlier_arrival, due_in, AreBuffers, HasRoom, HaveRoomForAll, AreNumbers, HasBufferNumbers, AreCounts, IsOneMore, HaveCountedRoom, CanTakeUp, HoldSame, HaveGained, JoinAlike, Grows};
+ghost use Rattle.links.specs.Buffers.{buffer_of, number_of_replies, in_buffer, due_in_buffer, without_due_in, replies_due, credits_due, contents, buffer_messages, buffer_messages_at, IsByAge, HasNoLater, HasNoLaterBeside, earlier_arrival, due_in, AreBuffers, HasRoom, HaveRoomForAll, AreNumbers, HasBufferNumbers, AreCounts, IsOneMore, HaveCountedRoom, CanTakeUp, HoldSame, HaveGained, JoinAlike, Grows};
+ghost use Rattle.links.specs.declared.buffers.Placed.TheVariants as Placed;
 
-use crate::buffers::Buffer;
+use crate::buffers::{Buffer, Placed};
 use crate::merge::messages_of;
 use sim_base::config::Config;
 use sim_base::message::{ChannelId, CoreId, Cycle, LinkId, Message, earlier};
@@ -258,8 +259,20 @@ fn make_room_for(
     Ok(())
 }
 
-/// Puts a message into the buffer that it goes to, for which room is made, and gives the number of that buffer. Where
-/// memory is refused, the same messages stand in the buffers as before.
+/// The number of a buffer, unless a message was put behind another one in it.
+#[inline(always)]
+fn unless_behind(placed: Placed, number: usize) -> Option<usize>
+    ensures number { IfSome result (λ n. n ≡ number) }
+    ensures behind { IsNone result → placed ≡ Placed.Behind }
+{
+    match placed {
+        Placed::MayBeNext => Some(number),
+        Placed::Behind => None,
+    }
+}
+
+/// Puts a message into the buffer that it goes to, for which room is made, and gives the number of that buffer; none,
+/// where one in it arrives no later. Where memory is refused, the same messages stand in the buffers as before.
 #[inline(always)]
 fn put_one(
     alloc: Global,
@@ -267,18 +280,22 @@ fn put_one(
     numbers: &[usize],
     channels: u16,
     message: &Message,
-) -> Result<usize, AllocError>
+) -> Result<Option<usize>, AllocError>
     requires numbers { HasBufferNumbers channels numbers.now }
     requires buffers { AreBuffers channels 0 (contents buffers.old.items) }
-    ensures number { IfOk result (λ number. number ≡ buffer_of channels message.now.link) }
+    ensures number { IfOk result (λ placed.
+        IfSome placed (λ number. number ≡ buffer_of channels message.now.link)) }
+    ensures behind { IfOk result (λ placed. IfNone placed
+        (HasNoLater (buffer_messages_at buffers.old.items (buffer_of channels message.now.link))
+        message.now)) }
     ensures buffers { AreBuffers channels 0 (contents buffers.new.items) }
     ensures ok { OnOk result (HaveGained buffers.old.items buffers.new.items (message.now ∷ [])) }
     ensures err { OnErr result (HoldSame buffers.old.items buffers.new.items) }
 {
     let number = number_of(numbers, channels, message.link);
     make_room_at(alloc, buffers, number, 1)?;
-    buffers[number].put_by_age(message);
-    Ok(number)
+    let placed = buffers[number].put_by_age(message);
+    Ok(unless_behind(placed, number))
 }
 
 /// Puts messages into the buffers that they go to, which have room for them.
@@ -450,11 +467,14 @@ impl Links {
         put_in_order(self.alloc, &self.numbers, self.channels, messages)
     }
 
-    /// Takes a message up, and gives the number of its buffer, which tells the unit that it goes to. Where memory is
-    /// refused, the links stay as they were.
+    /// Takes a message up, and gives the number of its buffer, which tells the unit that it goes to; none, where one
+    /// that is in flight in that buffer arrives no later. Where memory is refused, the links stay as they were.
     #[inline(always)]
-    pub fn put(&mut self, message: &Message) -> Result<usize, AllocError>
-        ensures number { IfOk result (λ buffer. buffer ≡ buffer_of self.old.channels message.now.link) }
+    pub fn put(&mut self, message: &Message) -> Result<Option<usize>, AllocError>
+        ensures number { IfOk result (λ placed.
+            IfSome placed (λ buffer. buffer ≡ buffer_of self.old.channels message.now.link)) }
+        ensures behind { IfOk result (λ placed.
+            IfNone placed (HasNoLaterBeside self.old message.now)) }
         ensures ok { OnOk result (self.new ≡ with_sent self.old (message.now ∷ [])) }
         ensures err { OnErr result (self.new ≡ self.old) }
     {

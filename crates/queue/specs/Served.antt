@@ -66,8 +66,8 @@ is_asked_like log departure = asks_at departure.bank departure.access log depart
 
 -- A request has been served, after which the log is this one, and it is no longer among the candidates of its bank and
 -- access, where this row is open: if they were the first ones of the log before, they are the first ones of this log,
--- once a request that may be served since then is taken in, if there is one. All ask for the first 64 banks. Where the
--- departure says that the bank and the access are empty, no request that waits asks for them.
+-- once a request that may be served since then is taken in, if there is one. This holds where all ask for the first 64
+-- banks, and where no request that waits asks for the bank and the access, if the departure says that they are empty.
 abbrev pub HasDeparted : CandidateWords → CandidateWords → List Arrived → Departure → Option ℕ → Type 0
 HasDeparted old new log departure row =
     (earlier : List Arrived) (unblocked : Option ℕ)

@@ -12,16 +12,17 @@ use Rattle.sim_base.specs.History.{insert_by_age}
 use Rattle.sim_base.proofs.Added.{length-push_suc}
 use Rattle.links.specs.InFlight.{InFlight}
 use Rattle.shards.specs.Lists.{lists_of}
-use Rattle.shards.specs.Shards.{IsOfMachine, IsShard, IsUpTo}
+use Rattle.shards.specs.Shards.{HasEarlyWords, IsOfMachine, IsShard, IsUpTo}
 use Rattle.shards.specs.Jobs.{JobView, IsJob, IsOwnJob, job_view}
 use Rattle.shards.specs.Phases.{PhaseView, MayGo, MayStop, job_of, name_of}
 use Rattle.units.specs.declared.machine.Machine.{Machine}
 use Rattle.units.specs.Units.{unit_count}
-use Rattle.units.specs.Wakes.{AreLowered, AreBetweenPhases}
+use Rattle.units.specs.Wakes.{AreEarly, AreLowered, AreBetweenPhases}
 use Rattle.shards.specs.declared.shard.Shard.{Shard}
 use Rattle.shards.specs.declared.job.JobName.{JobName}
 use Rattle.shards.proofs.Jobs.{taken-up}
 use Rattle.units.proofs.Standing.{seam-within}
+use Rattle.units.proofs.Early.{run-early}
 
 -- the lists of the shards from an index on stand where they stood
 pub record AreLeft (from : ℕ) (inbound left : List (Vec (Vec Message Global) Global)) : Type 0 where
@@ -88,6 +89,13 @@ stop-of_machine machine bounds index now shard inbound h =
       words = omega (arith, same, h.has_run.within, h.has_run.words_count);
       links = ap (λ (x : InFlight). x.channels) h.has_run.flight ∙ sym (ap (λ (m : Machine). m.config.channels) h.is.machine_is);
     }
+
+-- no word of a shard that has gone over its part of a phase is later than what is in flight to its unit
+pub stop-early : (machine : Machine) (bounds : List ℕ) (index now : ℕ) (shard : Shard) (inbound : List (Vec Message Global)) → IsUpTo machine bounds index now shard inbound
+    → HasEarlyWords shard
+stop-early machine bounds index now shard inbound h =
+    subst (λ (m : Machine). AreEarly m.config shard.range.first shard.range.words.items shard.traffic.links) (sym h.is.machine_is)
+    (run-early machine shard.range.first h.began h.last shard.range.units.items shard.range.words.items shard.traffic.links h.order h.has_run)
 
 -- a shard that takes up its lists is between phases
 pub stops : (machine : Machine) (bounds : List ℕ) (index now : ℕ) (before after : Shard) (inbound : List (Vec Message Global)) → IsUpTo machine bounds index now before inbound

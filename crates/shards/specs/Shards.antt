@@ -17,6 +17,7 @@
 --     AddsUnits shard old new      there are as many units more as a shard has
 --     IsOfMachine shard      the units and the links of a shard are those of its machine
 --     ChangesOnlyMail old new      only the words of a shard's units, and what is in flight to them, have changed
+--     HasEarlyWords shard      no word of a shard is later than the arrival of what is in flight to its unit
 --     LowersWords lists old new      the words of a shard are lowered to what stands in lists
 --     HasSent from until old new      a shard keeps what its units sent in a span
 --     HoldWhatWasSent shard lists      lists hold what a shard keeps of what its units sent, by receiving shard
@@ -39,7 +40,7 @@ use Rattle.units.specs.Runs.{flight_at}
 use Rattle.units.specs.Units.{unit_at, unit_count}
 use Rattle.units.specs.declared.machine.Machine.{Machine}
 use Rattle.units.specs.declared.part.UnitState.{UnitState}
-use Rattle.units.specs.Wakes.{IsStill, HaveRun, AreBetweenPhases, Waits, sent_in, unit_with_word}
+use Rattle.units.specs.Wakes.{AreEarly, IsStill, HaveRun, AreBetweenPhases, Waits, sent_in, unit_with_word}
 use Rattle.units.specs.declared.timed_unit.TimedUnit.{TimedUnit}
 use Rattle.units.specs.declared.waking.UnitRange.{UnitRange}
 use Rattle.shards.specs.declared.shard.Shard.{Shard}
@@ -141,6 +142,11 @@ ChangesOnlyMail old new =
       range = record old.range { words = new.range.words };
       traffic = record old.traffic { links = new.traffic.links };
     }
+
+-- no word of a shard's units is later than the arrival of what is in flight to its unit
+abbrev pub HasEarlyWords : Shard → Type 0
+HasEarlyWords shard =
+    AreEarly (arc_value shard.machine).config shard.range.first shard.range.words.items shard.traffic.links
 
 -- the words of a shard's units are lowered to the arrivals of what stands in lists
 abbrev pub LowersWords : List (Vec Message Global) → Shard → Shard → Type 0

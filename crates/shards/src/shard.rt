@@ -5,9 +5,9 @@ ghost use Rattle.std.specs.Arc.{arc_value};
 ghost use Rattle.sim_base.specs.Locality.{TravelsFor};
 ghost use Rattle.links.specs.InFlight.{NoneArrivesBefore, with_sent};
 ghost use Rattle.units.specs.Units.{unit_count};
-ghost use Rattle.units.specs.Wakes.{AreLowered};
+ghost use Rattle.units.specs.Wakes.{AreEarly, AreLowered};
 ghost use Rattle.shards.specs.Lists.{AllEmpty, LowersAll, with_lists};
-ghost use Rattle.shards.specs.Shards.{ChangesOnlyMail, HasShardRun, HasRangeRun, HasSent, HaveSent, HoldWhatWasSent, IsOfMachine, IsRangeBetweenPhases, IsSplit, LowersWords, IsBetweenPhases};
+ghost use Rattle.shards.specs.Shards.{ChangesOnlyMail, HasEarlyWords, HasShardRun, HasRangeRun, HasSent, HaveSent, HoldWhatWasSent, IsOfMachine, IsRangeBetweenPhases, IsSplit, LowersWords, IsBetweenPhases};
 
 use crate::exchange::sort_by_shard;
 use links::flight::Links;
@@ -44,7 +44,8 @@ fn first_arrival(messages: &[Message], cycle: Cycle) -> Cycle
     first
 }
 
-/// Takes up messages to units at places from `first` on: lowers their words, and empties the list.
+/// Takes up messages to units at places from `first` on, and empties the list: lowers their words, where none was later
+/// than what was in flight to its unit.
 fn take_up_list(
     machine: &Machine,
     first: usize,
@@ -54,8 +55,8 @@ fn take_up_list(
 ) -> Result<(), AllocError>
     requires within { first + length words.old ≤ unit_count machine.now.config }
     requires channels { links.old.channels ≡ machine.now.config.channels }
-    ensures words { OnOk result (
-        AreLowered machine.now.config first list.old.items words.old words.new) }
+    ensures words { OnOk result (AreEarly machine.now.config first words.old links.old
+        → AreLowered machine.now.config first list.old.items words.old words.new) }
     ensures links { OnOk result (links.new ≡ with_sent links.old list.old.items) }
     ensures empty { OnOk result (list.new.items ≡ []) }
 {
@@ -64,7 +65,8 @@ fn take_up_list(
     Ok(())
 }
 
-/// Takes up messages to units at places from `first` on, list by list: lowers their words, and empties the lists.
+/// Takes up messages to units at places from `first` on, list by list, and empties the lists: lowers their words, where
+/// none was later than what was in flight to its unit.
 fn take_up_all(
     machine: &Machine,
     first: usize,
@@ -75,7 +77,8 @@ fn take_up_all(
     requires within { first + length words.old ≤ unit_count machine.now.config }
     requires channels { links.old.channels ≡ machine.now.config.channels }
     ensures count { length lists.new ≡ length lists.old }
-    ensures words { OnOk result (LowersAll machine.now.config first lists.old words.old words.new) }
+    ensures words { OnOk result (AreEarly machine.now.config first words.old links.old
+        → LowersAll machine.now.config first lists.old words.old words.new) }
     ensures links { OnOk result (links.new ≡ with_lists links.old lists.old) }
     ensures empty { OnOk result (AllEmpty lists.new) }
 {
@@ -114,11 +117,13 @@ fn go_all(
 }
 
 impl Shard {
-    /// Takes up what was sent to the units in a phase to whose end they have gone.
+    /// Takes up what was sent to the units in a phase to whose end they have gone, and lowers their words, where none
+    /// was later than what was in flight to its unit.
     pub(crate) fn take_up(&mut self, lists: &mut [Vec<Message>]) -> Result<(), AllocError>
         requires { IsOfMachine self.old }
         ensures same { OnOk result (ChangesOnlyMail self.old self.new) }
-        ensures words { OnOk result (LowersWords lists.old self.old self.new) }
+        ensures words { OnOk result (
+            HasEarlyWords self.old → LowersWords lists.old self.old self.new) }
         ensures links { OnOk result (
             self.new.traffic.links ≡ with_lists self.old.traffic.links lists.old) }
         ensures count { OnOk result (length lists.new ≡ length lists.old) }

@@ -23,4 +23,5 @@ pub mod Vectors
 pub mod FirstBelow
 pub mod LeastWord
 pub mod OneByOne
+pub mod Early
 pub mod SpanLaws

@@ -25,18 +25,28 @@ pub record IsLowered (s : Config) (first : ℕ) (m : Message) (place : Option �
   pub arrival : IfSome place (IsNoLaterAt first m.arrival new)
   pub since : IsNoneSooner old new m.arrival
 
+-- The words after one message more: none is later than it was, and none to whose unit the message goes is later than it.
+pub record Reaches (s : Config) (first : ℕ) (m : Message) (old new : List ℕ) : Type 0 where
+  pub count : length new ≡ length old
+  pub less : NoneIsLater old new
+  pub arrival : (k : ℕ) → k < length old → goes_to_place s m (first + k) ≡ true → get_or new k 0 ≤ m.arrival
+  pub since : IsNoneSooner old new m.arrival
+
 -- the word of the unit that the message goes to is no later than its arrival
-reaches : (s : Config) (first : ℕ) (m : Message) (place : Option ℕ) (old new : List ℕ) → first + length old ≤ unit_count s → IsLowered s first m place old new
-    → (k : ℕ) → k < length old → goes_to_place s m (first + k) ≡ true → get_or new k 0 ≤ m.arrival
-reaches s first m None old new within h k l to = let no = h.none (first + k) (omega (arith, within, l)) in cc
-reaches s first m (Some place) old new within h k l to =
-    let same : unit_at s place ≡ unit_at s (first + k) = h.some.1 ∙ same_unit _ _ to in
-    h.arrival k (omega (arith, l, h.count)) (sym (place-at s (first + k)) ∙ ap (place_of_unit s) (sym same) ∙ place-at s place)
+pub reaches : (s : Config) (first : ℕ) (m : Message) (place : Option ℕ) (old new : List ℕ) → first + length old ≤ unit_count s → IsLowered s first m place old new → Reaches s first m old new
+reaches s first m place old new within h = record { count = h.count; less = h.less; arrival = λ k l to. by place h.some h.none h.arrival k l to; since = h.since }
+  where
+    by : (place : Option ℕ) → IfSome place (IsReceiver s m.link) → IfNone place (HasNoReceiver s m.link) → IfSome place (IsNoLaterAt first m.arrival new) → (k : ℕ) → k < length old
+        → goes_to_place s m (first + k) ≡ true → get_or new k 0 ≤ m.arrival
+    by None some none arrival k l to = let no = none (first + k) (omega (arith, within, l)) in cc
+    by (Some place) some none arrival k l to =
+        let same : unit_at s place ≡ unit_at s (first + k) = some.1 ∙ same_unit _ _ to in
+        arrival k (omega (arith, l, h.count)) (sym (place-at s (first + k)) ∙ ap (place_of_unit s) (sym same) ∙ place-at s place)
 
 -- words that are lowered to some messages, and then to the next, are lowered to one more
-pub lowered-next : (s : Config) (first n : ℕ) (d : Message) (sent : List Message) (place : Option ℕ) (old mid new : List ℕ) → first + length old ≤ unit_count s → n < length sent
-    → AreLowered s first (take n sent) old mid → IsLowered s first (get_or sent n d) place mid new → AreLowered s first (take (n + 1) sent) old new
-lowered-next s first n d sent place old mid new within less p q = record {
+pub lowered-next : (s : Config) (first n : ℕ) (d : Message) (sent : List Message) (old mid new : List ℕ) → n < length sent → AreLowered s first (take n sent) old mid
+    → Reaches s first (get_or sent n d) mid new → AreLowered s first (take (n + 1) sent) old new
+lowered-next s first n d sent old mid new less p q = record {
   count = q.count ∙ p.count;
   less = λ k l.
       let a = p.less k l in
@@ -79,8 +89,7 @@ lowered-next s first n d sent place old mid new within less p q = record {
         let is : j ≡ n = omega (arith, m, behind) in
         let at : get_or sent j e ≡ get_or sent n d = ap (λ i. get_or sent i e) is ∙ get_or_default sent n e d less in
         subst (λ (x : Message). get_or new k 0 ≤ x.arrival) (sym at)
-        (reaches s first (get_or sent n d) place mid new (omega (arith, within, p.count)) q k (still k l)
-        (subst (λ (x : Message). goes_to_place s x (first + k) ≡ true) at to))
+        (q.arrival k (still k l) (subst (λ (x : Message). goes_to_place s x (first + k) ≡ true) at to))
 
 -- words that are lowered to some messages are lowered to them in any order
 pub lowered-permuted : (s : Config) (first : ℕ) (sent other : List Message) (old new : List ℕ) → IsPermutation sent other → AreLowered s first sent old new → AreLowered s first other old new

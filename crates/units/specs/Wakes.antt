@@ -17,6 +17,7 @@
 --     links_to s first count mail      links with the messages that go to `count` units at places from `first` on
 --     goes_to_place s m place      a message goes to the unit at a place
 --     NoneIsLater, IsNoLaterAt, IsNoneSooner      words of which one is lowered to an arrival
+--     AreEarly s first words links      no word is later than the arrival of what is in flight to its unit
 --     AreLowered s first sent old new      words lowered to the arrivals of what was sent
 --     IsStill machine now then      nothing is sent in a span, and nothing in flight arrives in it
 use Rattle.std.specs.Prelude.{◌≡◌, ℕ, zero, suc, ◌+◌, ◌^◌, ◌<◌, ◌≤◌, min, max, true, Bool, List, [], ◌∷◌, ◌++◌, length, slice_index_or, filter, flat_map, All, Option}
@@ -181,6 +182,12 @@ IsNoLaterAt first arrival words place =
 abbrev pub IsNoneSooner : List ℕ → List ℕ → ℕ → Type 0
 IsNoneSooner old new arrival =
     (cycle k : ℕ) → k < length old → cycle ≤ slice_index_or old k 0 → cycle ≤ arrival → cycle ≤ slice_index_or new k 0
+
+-- the word of each unit, of those at places from `first` on, is no later than the arrival of what is in flight to it
+abbrev pub AreEarly : Config → ℕ → List ℕ → InFlight → Type 0
+AreEarly s first words links =
+    (k : ℕ) → k < length words
+    → All (λ m. goes_to_place s m (first + k) ≡ true → slice_index_or words k 0 ≤ m.arrival) links.messages
 
 -- The word of each unit, of those at places from `first` on, is no later than the arrival of what is sent to it; and if
 -- neither its old word nor any arrival is before a cycle, nor is the new one.

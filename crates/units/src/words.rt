@@ -7,7 +7,7 @@ ghost use Rattle.links.specs.Buffers.{buffer_of};
 ghost use Rattle.units.specs.Units.{unit_count};
 ghost use Rattle.sim_base.specs.declared.config.Config.{Config};
 ghost use Rattle.units.specs.GoingOn.{IsReceiver, HasNoReceiver, IsCountOf};
-ghost use Rattle.units.specs.Wakes.{AreLowered, NoneIsLater, IsNoLaterAt, IsNoneSooner};
+ghost use Rattle.units.specs.Wakes.{AreEarly, AreLowered, NoneIsLater, IsNoLaterAt, IsNoneSooner};
 
 use core_window::receive::channel_of;
 use links::flight::Links;
@@ -99,7 +99,8 @@ fn lower(first: usize, words: &mut [Cycle], place: Option<usize>, arrival: Cycle
     }
 }
 
-/// Takes messages up one after the other, and lowers the word of the unit that each goes to.
+/// Takes messages up one after the other, and lowers the word of the unit that each goes to, where it may be the next
+/// one that arrives in its buffer. So all words are lowered, where none was later than what was in flight to its unit.
 fn take_up_each(
     config: &Config,
     links: &mut Links,
@@ -109,24 +110,23 @@ fn take_up_each(
 ) -> Result<(), AllocError>
     requires within { first + length words.old ≤ unit_count config.now }
     requires channels { links.old.channels ≡ config.now.channels }
-    ensures lowered { OnOk result (AreLowered config.now first sent.now words.old words.new) }
+    ensures lowered { OnOk result (AreEarly config.now first words.old links.old
+        → AreLowered config.now first sent.now words.old words.new) }
     ensures links { OnOk result (links.new ≡ with_sent links.old sent.now) }
 {
     let counts = counts_of(config);
     for message in sent {
-        let buffer = links.put(message)?;
-        lower(
-            first,
-            words,
-            place_of_buffer(counts, buffer),
-            message.arrival,
-        );
+        if let Some(buffer) = links.put(message)? {
+            let place = place_of_buffer(counts, buffer);
+            lower(first, words, place, message.arrival);
+        }
     }
     Ok(())
 }
 
 /// Takes up what was sent, which may change places, and lowers the words of units at places from `first` on to the
-/// arrivals of what was sent to them. The only error is out of memory, and some messages may be taken up by then.
+/// arrivals of what was sent to them, where no word was later than what was in flight to its unit. The only error is
+/// out of memory, and some messages may be taken up by then.
 #[inline(always)]
 pub fn take_up(
     config: &Config,
@@ -138,7 +138,8 @@ pub fn take_up(
     requires within { first + length words.old ≤ unit_count config.now }
     requires channels { links.old.channels ≡ config.now.channels }
     ensures same { IsPermutation sent.old sent.new }
-    ensures lowered { OnOk result (AreLowered config.now first sent.old words.old words.new) }
+    ensures lowered { OnOk result (AreEarly config.now first words.old links.old
+        → AreLowered config.now first sent.old words.old words.new) }
     ensures links { OnOk result (links.new ≡ with_sent links.old sent.old) }
 {
     links.put_in_order(sent)?;

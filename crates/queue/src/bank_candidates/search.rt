@@ -9,18 +9,6 @@ use crate::request_log::words::{bank_number, tag_word};
 use memchr::memchr;
 use sim_base::message::{Access, Request};
 
-/// Whether a request is of a bank and an access, and asks for a row if one is given.
-#[inline(always)]
-fn is_wanted(request: &Request, bank: usize, access: Access, row: Option<u32>) -> bool
-    ensures { result ≡ wants bank access row request.now }
-{
-    let same_bank = bank_number(request.place) == bank && request.access.is_access(access);
-    match row {
-        Some(row) => same_bank && request.place.row == row,
-        None => same_bank,
-    }
-}
-
 /// Whether a request asks for a row, if one is given.
 #[inline(always)]
 fn asks_row(request: &Request, row: Option<u32>) -> bool
@@ -30,6 +18,14 @@ fn asks_row(request: &Request, row: Option<u32>) -> bool
         Some(row) => request.place.row == row,
         None => true,
     }
+}
+
+/// Whether a request is of a bank and an access, and asks for a row if one is given.
+#[inline(always)]
+fn is_wanted(request: &Request, bank: usize, access: Access, row: Option<u32>) -> bool
+    ensures { result ≡ wants bank access row request.now }
+{
+    bank_number(request.place) == bank && request.access.is_access(access) && asks_row(request, row)
 }
 
 /// Whether some request that waits may be of a bank and an access, and ask for a row if one is given: false only where

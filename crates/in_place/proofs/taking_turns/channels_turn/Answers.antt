@@ -6,8 +6,9 @@ use Rattle.sim_base.specs.History.{insert_by_age}
 use Rattle.links.specs.InFlight.{InFlight}
 use Rattle.units.specs.Flight.{sent_by}
 use Rattle.in_place.specs.Turns.{AreInTurns, all_units, all_words}
-use Rattle.units.specs.Wakes.{WaitAll, HoldInboxes, AreLowered, links_after}
-use Rattle.in_place.proofs.Turning.{channels-holds_inbox, channels-wait_all, channels-turned, channels-many, channel-words_many}
+use Rattle.units.specs.Wakes.{WaitAll, HoldInboxes, AreEarly, AreLowered, links_after}
+use Rattle.units.proofs.Early.{all-early, left-early}
+use Rattle.in_place.proofs.Turning.{cores-holds_inbox, cores-wait_all, channels-holds_inbox, channels-wait_all, channels-turned, channels-many, channel-words_many}
 use Rattle.in_place.proofs.taking_turns.channels_turn.Goals as goal
 
 pub go_on-requires-clause-within : goal.go_on-requires-clause-within
@@ -77,7 +78,18 @@ returns-clause-turns c =
     let up = c.in_ok-take_up.ensures in
     let lowered = c.take_up.new.words in
     let many = channels-many machine at.cores_at at.channels_at kinds links by_kind r.turns.1 in
-    let count : length lowered ≡ kinds.cores.words.len = up.lowered.count ∙ ap length c.deref_mut.ensures.value ∙ sym kinds.cores.words.ok.0 in
+    let waiting : AreEarly s 0 (take n (all_words kinds)) links =
+    all-early machine 0 at.cores_at at.channels_at (take n (all_units kinds)) (take n (all_words kinds)) links
+    (ap length (take_at core_words words n by_kind.core_words) ∙ by_kind.core_words ∙ sym by_kind.cores_count ∙ sym (ap length (take_at core_units units n by_kind.cores_count)))
+    (subst (λ m. HoldInboxes machine 0 m at.cores_at at.channels_at at.cores_at links) (sym (ap length (take_at core_units units n by_kind.cores_count) ∙ by_kind.cores_count))
+    (cores-holds_inbox machine at.cores_at at.channels_at at.cores_at (all_units kinds) (all_words kinds) links r.turns.1 r.turns.1.cores_near))
+    (cores-wait_all machine at.cores_at at.channels_at (all_units kinds) (all_words kinds) links r.turns.1) in
+    let early : AreEarly s kinds.cores.first c.deref_mut.result.now c.go_on.new.traffic.links =
+    subst (AreEarly s kinds.cores.first c.deref_mut.result.now) (sym has_run.links)
+    (subst (λ i. AreEarly s i c.deref_mut.result.now (links_after s at.channels_at until kinds.channels.first (length units) links)) (sym by_kind.cores_first)
+    (subst (λ ws. AreEarly s 0 ws (links_after s at.channels_at until kinds.channels.first (length units) links)) (sym (c.deref_mut.ensures.value ∙ sym (take_at core_words words n by_kind.core_words)))
+    (left-early s 0 (take n (all_words kinds)) at.channels_at until kinds.channels.first (length units) links waiting))) in
+    let count : length lowered ≡ kinds.cores.words.len = (up.lowered early).count ∙ ap length c.deref_mut.ensures.value ∙ sym kinds.cores.words.ok.0 in
     let is_lowered : (with_items kinds.cores.words lowered).items ≡ lowered = with_items_is kinds.cores.words lowered count in (
       record {
         cores_first = by_kind.cores_first;
@@ -94,7 +106,7 @@ returns-clause-turns c =
           (has_run.sent ∙ ap₂ (λ i m. sent_by machine at.channels_at until i m) by_kind.channels_first many)
           (subst (λ ms. AreLowered s 0 ms (take n (all_words kinds)) lowered) c.deref_mut-2.ensures.value
           (subst (λ ws. AreLowered s 0 c.deref_mut-2.result.now ws lowered) (c.deref_mut.ensures.value ∙ sym (take_at core_words words n by_kind.core_words))
-          (subst (λ i. AreLowered s i c.deref_mut-2.result.now c.deref_mut.result.now lowered) by_kind.cores_first up.lowered)))
+          (subst (λ i. AreLowered s i c.deref_mut-2.result.now c.deref_mut.result.now lowered) by_kind.cores_first (up.lowered early))))
           (up.links
           ∙ ap₂ {C = InFlight} (λ (x : InFlight) ms. record x { messages = fold insert_by_age x.messages ms })
           (has_run.links ∙ ap₂ {C = InFlight} (λ i m. links_after s at.channels_at until i m links) by_kind.channels_first many) c.deref_mut-2.ensures.value))),

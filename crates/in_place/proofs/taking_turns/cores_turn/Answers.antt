@@ -6,8 +6,9 @@ use Rattle.sim_base.specs.History.{insert_by_age}
 use Rattle.links.specs.InFlight.{InFlight}
 use Rattle.units.specs.Flight.{sent_by}
 use Rattle.in_place.specs.Turns.{AreInTurns, all_units, all_words}
-use Rattle.units.specs.Wakes.{WaitAll, HoldInboxes, AreLowered, links_after}
-use Rattle.in_place.proofs.Turning.{cores-holds_inbox, cores-wait_all, cores-turned, channel-words_many}
+use Rattle.units.specs.Wakes.{WaitAll, HoldInboxes, AreEarly, AreLowered, links_after}
+use Rattle.units.proofs.Early.{all-early, left-early}
+use Rattle.in_place.proofs.Turning.{cores-holds_inbox, cores-wait_all, channels-holds_inbox, channels-wait_all, cores-turned, channels-many, channel-words_many}
 use Rattle.in_place.proofs.taking_turns.cores_turn.Goals as goal
 
 pub go_on-requires-clause-within : goal.go_on-requires-clause-within
@@ -76,7 +77,19 @@ returns-clause-turns c =
     let up = c.in_ok-take_up.ensures in
     let lowered = c.take_up.new.words in
     let many = by_kind.cores_count in
-    let count : length lowered ≡ kinds.channels.words.len = up.lowered.count ∙ ap length c.deref_mut.ensures.value ∙ sym kinds.channels.words.ok.0 in
+    let wide : length channel_units ≡ s.channels = channels-many machine at.cores_at at.channels_at kinds links by_kind r.turns.1 in
+    let waiting : AreEarly s n (drop n (all_words kinds)) links =
+    all-early machine n at.channels_at at.cores_at (drop n (all_units kinds)) (drop n (all_words kinds)) links
+    (ap length (drop_at words channel_words n by_kind.core_words) ∙ channel-words_many machine at.cores_at at.channels_at kinds links by_kind r.turns.1 ∙ sym wide ∙ sym (ap length (drop_at units channel_units n by_kind.cores_count)))
+    (subst (λ m. HoldInboxes machine n m at.channels_at at.cores_at at.channels_at links) (sym (ap length (drop_at units channel_units n by_kind.cores_count) ∙ wide))
+    (channels-holds_inbox machine at.cores_at at.channels_at at.channels_at (all_units kinds) (all_words kinds) links r.turns.1 r.turns.1.channels_near))
+    (channels-wait_all machine at.cores_at at.channels_at (all_units kinds) (all_words kinds) links r.turns.1) in
+    let early : AreEarly s kinds.channels.first c.deref_mut.result.now c.go_on.new.traffic.links =
+    subst (AreEarly s kinds.channels.first c.deref_mut.result.now) (sym has_run.links)
+    (subst (λ i. AreEarly s i c.deref_mut.result.now (links_after s at.cores_at until kinds.cores.first (length units) links)) (sym by_kind.channels_first)
+    (subst (λ ws. AreEarly s n ws (links_after s at.cores_at until kinds.cores.first (length units) links)) (sym (c.deref_mut.ensures.value ∙ sym (drop_at words channel_words n by_kind.core_words)))
+    (left-early s n (drop n (all_words kinds)) at.cores_at until kinds.cores.first (length units) links waiting))) in
+    let count : length lowered ≡ kinds.channels.words.len = (up.lowered early).count ∙ ap length c.deref_mut.ensures.value ∙ sym kinds.channels.words.ok.0 in
     let is_lowered : (with_items kinds.channels.words lowered).items ≡ lowered = with_items_is kinds.channels.words lowered count in (
       record {
         cores_first = has_run.first ∙ by_kind.cores_first;
@@ -93,7 +106,7 @@ returns-clause-turns c =
           (has_run.sent ∙ ap₂ (λ i m. sent_by machine at.cores_at until i m) by_kind.cores_first many)
           (subst (λ ms. AreLowered s n ms (drop n (all_words kinds)) lowered) c.deref_mut-2.ensures.value
           (subst (λ ws. AreLowered s n c.deref_mut-2.result.now ws lowered) (c.deref_mut.ensures.value ∙ sym (drop_at words channel_words n by_kind.core_words))
-          (subst (λ i. AreLowered s i c.deref_mut-2.result.now c.deref_mut.result.now lowered) by_kind.channels_first up.lowered)))
+          (subst (λ i. AreLowered s i c.deref_mut-2.result.now c.deref_mut.result.now lowered) by_kind.channels_first (up.lowered early))))
           (up.links
           ∙ ap₂ {C = InFlight} (λ (x : InFlight) ms. record x { messages = fold insert_by_age x.messages ms })
           (has_run.links ∙ ap₂ {C = InFlight} (λ i m. links_after s at.cores_at until i m links) by_kind.cores_first many) c.deref_mut-2.ensures.value))),

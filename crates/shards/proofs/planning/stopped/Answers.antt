@@ -7,10 +7,10 @@ use Rattle.sim_base.specs.declared.message.Message.{Message}
 use Rattle.sim_base.proofs.Added.{length-push_suc}
 use Rattle.links.specs.InFlight.{InFlight}
 use Rattle.shards.specs.Lists.{lists_of, with_lists}
-use Rattle.shards.specs.Shards.{IsOfMachine, IsShard}
+use Rattle.shards.specs.Shards.{HasEarlyWords, IsOfMachine, IsShard}
 use Rattle.units.specs.Wakes.{AreLowered}
 use Rattle.shards.specs.declared.shard.Shard.{Shard}
-use Rattle.shards.proofs.Setting.{left-next, seam-stop, stop-of_machine, stops}
+use Rattle.shards.proofs.Setting.{left-next, seam-stop, stop-early, stop-of_machine, stops}
 use Rattle.shards.proofs.Splitting.{AreMade, made-push}
 use Rattle.shards.proofs.planning.stopped.Goals as goal
 
@@ -48,11 +48,12 @@ loop-shard-preserved c =
     c.deref_mut-in-loop-shard.ensures.value ∙ ap (λ (v : Vec (Vec Message Global) Global). v.items) (c.index_mut.ensures.value ∙ ap (λ n. get_or at.inbound.items n d) index) in
     let same : new ≡ record shard { range = record shard.range { words = new.range.words }; traffic = record shard.traffic { links = new.traffic.links } } =
     up.same ∙ ap {A = Shard} {B = Shard} (λ y. record y { range = record y.range { words = new.range.words }; traffic = record y.traffic { links = new.traffic.links } }) old in
+    let stop = seam-stop machine bounds now c.args.shards.items at.yielded _ x c.args.inbound.items at.inbound.items d c.requires whole at.invariant.left in
+    let early : HasEarlyWords c.deref_mut.result.now = subst HasEarlyWords (sym old) (stop-early machine bounds (length at.yielded) now shard _ stop) in
     let low : AreLowered (arc_value shard.machine).config shard.range.first (lists_of own) shard.range.words.items new.range.words.items =
     subst (λ (y : Shard). AreLowered (arc_value y.machine).config y.range.first (lists_of own) y.range.words.items new.range.words.items) old
-    (subst (λ ls. AreLowered (arc_value c.deref_mut.result.now.machine).config c.deref_mut.result.now.range.first (lists_of ls) c.deref_mut.result.now.range.words.items new.range.words.items) lists up.words) in
+    (subst (λ ls. AreLowered (arc_value c.deref_mut.result.now.machine).config c.deref_mut.result.now.range.first (lists_of ls) c.deref_mut.result.now.range.words.items new.range.words.items) lists (up.words early)) in
     let links = up.links ∙ ap₂ {C = InFlight} (λ (y : Shard) ls. with_lists y.traffic.links ls) old lists in
-    let stop = seam-stop machine bounds now c.args.shards.items at.yielded _ x c.args.inbound.items at.inbound.items d c.requires whole at.invariant.left in
     let made = stops machine bounds (length at.yielded) now shard new own stop same low links in
     record {
       order = append_assoc at.yielded (x ∷ []) _ ∙ ap (λ z. at.yielded ++ z) (sym steps.0) ∙ at.invariant.order;

@@ -7,6 +7,7 @@ use Rattle.sim_base.specs.declared.message.Message.{Message}
 use Rattle.links.specs.InFlight.{InFlight}
 use Rattle.shards.specs.Lists.{lists_of}
 use Rattle.units.specs.Wakes.{AreLowered}
+use Rattle.units.proofs.Early.{early-after}
 use Rattle.shards.proofs.Exchanging.{lowered-more, lists-more, taken-more}
 use Rattle.shards.proofs.shard.take_up_all.Goals as goal
 
@@ -25,9 +26,12 @@ loop-list-preserved c =
     let before = lists_of (take n lists) in
     record {
       left = λ k d l. let other : k ≢ n = omega (arith, l) in get_or-set_other at.lists n k c.take_up_list.new.list d other ∙ at.invariant.left k d (omega (arith, l));
-      words = subst (λ ms. AreLowered s first ms c.args.words.now c.take_up_list.new.words) (sym (lists-more lists n x less))
-          (lowered-more s first before (get_or lists n x).items c.args.words.now at.words c.take_up_list.new.words at.invariant.words
-          (subst (λ (v : Vec Message Global). AreLowered s first v.items at.words c.take_up_list.new.words) same h.words));
+      words = λ early.
+          let so_far = at.invariant.words early in
+          subst (λ ms. AreLowered s first ms c.args.words.now c.take_up_list.new.words) (sym (lists-more lists n x less))
+          (lowered-more s first before (get_or lists n x).items c.args.words.now at.words c.take_up_list.new.words so_far
+          (subst (λ (v : Vec Message Global). AreLowered s first v.items at.words c.take_up_list.new.words) same
+          (h.words (early-after s first before c.args.words.now at.words c.args.links.now at.links at.invariant.links early so_far))));
       links = h.links
           ∙ ap (λ (k : InFlight). record k { messages = fold insert_by_age k.messages (get_or at.lists n x).items }) at.invariant.links
           ∙ ap (λ (v : Vec Message Global). record c.args.links.now { messages = fold insert_by_age (fold insert_by_age c.args.links.now.messages before) v.items }) same

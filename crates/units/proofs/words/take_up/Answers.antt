@@ -9,5 +9,5 @@ returns-clause-lowered c =
     let at = c.take_up_each.ensures.lowered in
     let other = IsPermutation-sym _ _ c.put_in_order.ensures.same in
     both_on_ok c.take_up_each.result
-    (λ h _. lowered-permuted c.args.config.now c.args.first c.put_in_order.new.messages c.args.sent.now c.args.words.now c.take_up_each.new.words other h)
+    (λ h _ early. lowered-permuted c.args.config.now c.args.first c.put_in_order.new.messages c.args.sent.now c.args.words.now c.take_up_each.new.words other (h early))
     at at

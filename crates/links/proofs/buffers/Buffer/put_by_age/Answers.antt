@@ -1,6 +1,6 @@
-use Rattle.std.proofs.Common.{sym, ap, ◌∙◌}
+use Rattle.std.proofs.Common.{◌≡◌, ◌<◌, length, drop, sym, ap, subst, ◌∙◌}
 use Rattle.links.specs.Buffers.{Buffered, is_younger_last}
-use Rattle.links.proofs.Steps.{last_place, put_last}
+use Rattle.links.proofs.Steps.{last_place, put_last, some_no_later}
 use Rattle.links.proofs.buffers.Buffer.put_by_age.Goals as goal
 
 pub put_among-requires-clause-younger : goal.put_among-requires-clause-younger
@@ -11,8 +11,8 @@ put_among-requires-clause-younger c =
     ∙ sym c.is_before_last.ensures
     ∙ c.if-is_before_last.true
 
-pub returns-else-is_before_last-clause-items : goal.returns-else-is_before_last-clause-items
-returns-else-is_before_last-clause-items c =
+pub returns-clause-items : goal.returns-clause-items
+returns-clause-items c =
     put_last c.self.inside.free c.args.message.now c.args.self.now.items c.self.inside.places.items _ c.self.inside.within (ap (λ (b : Buffered). b.items) (sym c.self.view_is))
     c.push_reserved.ensures.items c.requires.in_order
     (ap (is_younger_last c.args.message.now) (ap (λ (b : Buffered). b.items) (sym c.self.view_is))
@@ -20,3 +20,15 @@ returns-else-is_before_last-clause-items c =
     ∙ ap (is_younger_last c.args.message.now) (sym c.deref.ensures.value)
     ∙ sym c.is_before_last.ensures
     ∙ c.if-is_before_last.false)
+
+pub returns-clause-behind : goal.returns-clause-behind
+returns-clause-behind c is =
+    let items = c.args.self.now.items in
+    let at : items ≡ drop c.self.inside.free c.self.inside.places.items = ap (λ (b : Buffered). b.items) (sym c.self.view_is) in
+    some_no_later c.args.message.now c.self.inside.free items c.self.inside.places.items c.self.inside.within c.self.inside.none_free at c.requires.in_order
+    (ap (is_younger_last c.args.message.now) at
+    ∙ last_place c.args.message.now c.self.inside.free c.self.inside.places.items c.self.inside.within c.self.inside.none_free
+    ∙ ap (is_younger_last c.args.message.now) (sym c.deref.ensures.value)
+    ∙ sym c.is_before_last.ensures
+    ∙ c.if-is_before_last.false)
+    (subst (λ ms. 0 < length ms) c.deref-2.ensures.value (c.placed_last-placed.ensures is))

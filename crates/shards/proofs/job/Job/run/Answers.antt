@@ -8,12 +8,13 @@ use Rattle.std.proofs.lemmas.List.{with_items_is}
 use Rattle.links.specs.InFlight.{InFlight}
 use Rattle.sim_base.specs.Locality.{TravelsFor}
 use Rattle.shards.specs.Lists.{AllEmpty, AreSortedByShard, lists_of, with_lists}
-use Rattle.shards.specs.Shards.{HasShardRun, HoldWhatWasSent, IsOfMachine, IsSplit, IsBetweenPhases, sent_of_shard}
+use Rattle.shards.specs.Shards.{HasEarlyWords, HasShardRun, HoldWhatWasSent, IsOfMachine, IsSplit, IsBetweenPhases, sent_of_shard}
 use Rattle.shards.specs.Jobs.{IsDone, JobView}
 use Rattle.units.specs.Wakes.{AreLowered}
 use Rattle.units.specs.declared.machine.Machine.{Machine}
 use Rattle.shards.specs.declared.shard.Shard.{Shard}
 use Rattle.shards.proofs.Jobs.{taken-up, job-ends}
+use Rattle.shards.proofs.Setting.{stop-early}
 use Rattle.shards.proofs.job.Job.run.Goals as goal
 
 pub take_up-requires : goal.take_up-requires
@@ -82,9 +83,10 @@ go-requires-clause-between_phases c =
     let lists = c.deref_mut-2.ensures.value in
     let same : c.deref_mut-3.result.now ≡ record shard { range = record shard.range { words = new.range.words }; traffic = record shard.traffic { links = new.traffic.links } } =
     c.deref_mut-3.ensures.value ∙ up.same ∙ ap {A = Shard} {B = Shard} (λ x. record x { range = record x.range { words = new.range.words }; traffic = record x.traffic { links = new.traffic.links } }) old in
+    let early : HasEarlyWords c.deref_mut.result.now = subst HasEarlyWords (sym old) (stop-early m shard.bounds.items f.name.shard f.name.from shard f.inbound.items c.self.invariant.before) in
     let low : AreLowered m.config shard.range.first (lists_of f.inbound.items) shard.range.words.items new.range.words.items =
     subst (λ (x : Shard). AreLowered (arc_value x.machine).config x.range.first (lists_of f.inbound.items) x.range.words.items new.range.words.items) old
-    (subst (λ ls. AreLowered (arc_value c.deref_mut.result.now.machine).config c.deref_mut.result.now.range.first (lists_of ls) c.deref_mut.result.now.range.words.items new.range.words.items) lists up.words) in
+    (subst (λ ls. AreLowered (arc_value c.deref_mut.result.now.machine).config c.deref_mut.result.now.range.first (lists_of ls) c.deref_mut.result.now.range.words.items new.range.words.items) lists (up.words early)) in
     let links = up.links ∙ ap₂ {C = InFlight} (λ (x : Shard) ls. with_lists x.traffic.links ls) old lists in
     subst (λ (x : Shard). IsBetweenPhases (arc_value x.machine) f.name.from x) (sym same)
     (taken-up m shard.bounds.items f.name.shard f.name.from shard f.inbound.items new.range.words.items new.traffic.links c.self.invariant.before low links)
