@@ -1,5 +1,5 @@
 -- The steps of the loops over one buffer.
-use Rattle.std.proofs.Common.{ℕ, suc, zero, ◌+◌, ◌-◌, ◌<◌, ◌≤◌, ◌≡◌, ◌⊎◌, inl, inr, Bool, true, false, not, ltb, get_or, set, length, length-set, take, drop, List, [], ◌∷◌, ◌++◌, append-nil, Option, Some, None, refl, sym, ap, ◌∙◌, subst, arith}
+use Rattle.std.proofs.Common.{◌↔◌, cond, ℕ, suc, zero, ◌+◌, ◌-◌, ◌<◌, ◌≤◌, ◌≡◌, ◌⊎◌, inl, inr, Bool, true, false, not, ltb, get_or, set, length, length-set, take, drop, List, [], ◌∷◌, ◌++◌, append-nil, Option, Some, None, refl, sym, ap, ◌∙◌, subst, arith}
 use Rattle.std.specs.Prelude.{filter, insert, slice_get}
 use Rattle.std.specs.Option.{option_map_or}
 use Rattle.std.specs.List.{take_while, AllByRecursion as Each}
@@ -14,7 +14,7 @@ use Rattle.sim_base.proofs.Arrived.{put, fold-puts, not_before_le}
 use Rattle.sim_base.proofs.Lists.{slice_get-drop}
 use Rattle.sim_base.proofs.Ordered.{Each-weaker, Sorted}
 use Rattle.links.specs.InFlight.{arrives_before}
-use Rattle.links.specs.Buffers.{arrives_later, is_last_due, is_younger_last, IsInserted}
+use Rattle.links.specs.Buffers.{GoesBehind, arrives_later, is_last_due, is_younger_last, IsInserted}
 use Rattle.links.proofs.Ages.{in_order-Sorted}
 use Rattle.links.proofs.Merging.{after_both}
 
@@ -348,23 +348,31 @@ all_due until ms h is = pick (slice_get ms (length ms - 1)) refl is
     pick None e is = absurd (true≢false (sym is))
     pick (Some last) e is = due-all until ms last (in_order-Sorted ms h) e (ltb-true last.arrival until is)
 
--- where a message does not go before the last of some others, that one arrives no later
-pub some_no_later : (m : Message) (free : ℕ) (ms places : List Message) → free ≤ length places → (free ≡ length places → free ≡ 0) → ms ≡ drop free places → by_age ms ≡ ms
-    → is_younger_last m ms ≡ false → 0 < length places → 0 < length (filter (arrives_before (m.arrival + 1)) ms)
-some_no_later m free ms places l none e s young some =
-    let long : 0 < length ms = omega (arith, ap length e, length-drop free places, l, some, empty-free (cases_lt free (length places))) in
-    subst (λ xs. 0 < length xs) (sym (all_due (m.arrival + 1) ms s (pick (slice_get ms (length ms - 1)) refl (slice_get-get_or ms (length ms - 1) m (omega (arith, long))) young))) long
+-- ---- messages that go behind others
+pub some-left : (free : ℕ) (ms places : List Message) → free ≤ length places → (free ≡ length places → free ≡ 0) → ms ≡ drop free places → (0 < length ms) ↔ (0 < length places)
+some-left free ms places l none e = (λ some. omega (arith, ap length e, length-drop free places, some), λ some. left some (cases_lt free (length places)))
   where
-    empty-free : (free < length places) ⊎ (length places ≤ free) → free < length places
-    empty-free (inl less) = less
-    empty-free (inr over) =
+    left : 0 < length places → (free < length places) ⊎ (length places ≤ free) → 0 < length ms
+    left some (inl less) = omega (arith, ap length e, length-drop free places, less)
+    left some (inr over) =
         let all : free ≡ length places = omega (arith, l, over) in
         let zero_free : free ≡ 0 = none all in
-        omega (arith, zero_free, some)
+        omega (arith, zero_free, some, over)
 
-    pick : (o : Option Message) → slice_get ms (length ms - 1) ≡ o → slice_get ms (length ms - 1) ≡ Some (get_or ms (length ms - 1) m) → option_map_or (is_before m) (slice_get ms (length ms - 1)) false ≡ false
-        → option_map_or (arrives_before (m.arrival + 1)) (slice_get ms (length ms - 1)) false ≡ true
-    pick None e there young = let bad : None ≡ Some (get_or ms (length ms - 1) m) = sym e ∙ there in absurd (cc bad)
-    pick (Some last) e there young =
-        let before : is_before m last ≡ false = ap (λ o. option_map_or (is_before m) o false) (sym e) ∙ young in
-        ap (λ o. option_map_or (arrives_before (m.arrival + 1)) o false) e ∙ lt-ltb last.arrival (m.arrival + 1) (omega (arith, not_before_le m last before))
+-- the one that a message goes behind arrives no later
+pub behind-no_later : (m : Message) (ms : List Message) → GoesBehind m ms → 0 < length (filter (arrives_before (m.arrival + 1)) ms)
+behind-no_later m [] h = h.0
+behind-no_later m (x ∷ []) h =
+    let due : arrives_before (m.arrival + 1) x ≡ true = lt-ltb x.arrival (m.arrival + 1) (omega (arith, not_before_le m x h.1)) in
+    subst (λ b. 0 < length (cond b (x ∷ []) [])) (sym due) (omega arith)
+behind-no_later m (x ∷ y ∷ ys) h = more (arrives_before (m.arrival + 1) x) (behind-no_later m (y ∷ ys) (omega arith, subst (λ k. option_map_or (is_before m) (slice_get (y ∷ ys) k) false ≡ false) last_of_rest last))
+  where
+    last : option_map_or (is_before m) (slice_get (x ∷ y ∷ ys) (suc (length ys))) false ≡ false
+    last = let e : length (x ∷ y ∷ ys) - 1 ≡ suc (length ys) = omega arith in subst (λ k. option_map_or (is_before m) (slice_get (x ∷ y ∷ ys) k) false ≡ false) e h.1
+
+    last_of_rest : length ys ≡ length (y ∷ ys) - 1
+    last_of_rest = omega arith
+
+    more : (b : Bool) → 0 < length (filter (arrives_before (m.arrival + 1)) (y ∷ ys)) → 0 < length (cond b (x ∷ filter (arrives_before (m.arrival + 1)) (y ∷ ys)) (filter (arrives_before (m.arrival + 1)) (y ∷ ys)))
+    more true some = omega arith
+    more false some = some

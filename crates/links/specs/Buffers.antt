@@ -38,9 +38,9 @@
 --     NoneYoungerBefore ms place m      the message directly before a place, if any, is not younger than another
 --     IsInserted m old new      a message is put among others by age, of which the last was younger and stood twice
 --     is_last_due until ms      the last of some messages arrives before a cycle
---     HasNoLater ms m      one of some messages arrives no later than another
---     HasNoLaterBeside flight m      so does one that is in flight in the buffer that the other goes to
 --     is_younger_last m ms      the last of some messages is younger than another
+--     GoesBehind m ms      a message goes behind some others, of which there is one
+--     GoesBehindInFlight m flight      a message goes behind what is in flight in its buffer
 use Rattle.std.specs.Prelude.{◌≡◌, ℕ, ◌+◌, ◌*◌, ◌-◌, ◌/◌, ◌%◌, ◌==◌, ◌^◌, ◌<◌, ◌≤◌, Bool, true, false, not, ◌&&◌, filter, count_by, fold, slice_get, List, [], ◌∷◌, ◌++◌, length, map, min, slice_index_or, vec_len, vec_capacity, Option, Some, if◌then◌else◌}
 use Rattle.std.specs.declared.vec.Vec.{Vec}
 use Rattle.std.specs.declared.alloc.Global.{Global}
@@ -250,15 +250,14 @@ IsInserted m old new =
 abbrev pub is_last_due : ℕ → List Message → Bool
 is_last_due until ms = option_map_or (arrives_before until) (slice_get ms (length ms - 1)) false
 
--- one of some messages arrives no later than this one
-abbrev pub HasNoLater : List Message → Message → Type 0
-HasNoLater ms m = 0 < length (due_of (m.arrival + 1) ms)
-
--- one of the messages in flight in the buffer that this one goes to arrives no later
-abbrev pub HasNoLaterBeside : InFlight → Message → Type 0
-HasNoLaterBeside flight m =
-    0 < length (due_in_buffer flight (buffer_to flight.channels m) (m.arrival + 1))
-
 -- the last of some messages is younger than this one
 abbrev pub is_younger_last : Message → List Message → Bool
 is_younger_last m ms = option_map_or (is_before m) (slice_get ms (length ms - 1)) false
+
+-- a message goes behind some others: there is one, and the last of them is not younger
+abbrev pub GoesBehind : Message → List Message → Type 0
+GoesBehind m ms = (0 < length ms) × (is_younger_last m ms ≡ false)
+
+-- a message goes behind those in flight in its buffer, of which there is one
+abbrev pub GoesBehindInFlight : Message → InFlight → Type 0
+GoesBehindInFlight m flight = GoesBehind m (in_buffer flight (buffer_to flight.channels m))

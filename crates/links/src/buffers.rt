@@ -4,7 +4,7 @@ ghost use Rattle.std.specs.Prelude.{◌≡◌, ◌+◌, ◌<◌, ◌≤◌, [], 
 ghost use Rattle.std.specs.List.{prefix_len};
 ghost use Rattle.sim_base.specs.History.{insert_by_age};
 ghost use Rattle.links.specs.InFlight.{arrives_before, first_arrival};
-ghost use Rattle.links.specs.Buffers.{empty_buffer, IsByAge, due_of, HasNoLater, HasYoungerBefore, NoneYoungerBefore, IsInserted, is_last_due, is_younger_last};
+ghost use Rattle.links.specs.Buffers.{empty_buffer, IsByAge, due_of, GoesBehind, HasYoungerBefore, NoneYoungerBefore, IsInserted, is_last_due, is_younger_last};
 ghost use Rattle.links.specs.declared.buffers.Placed.TheVariants as Placed;
 
 use sim_base::message::{Cycle, Message};
@@ -75,7 +75,7 @@ pub enum Placed {
 
 /// Where a message is put that goes behind all of a list.
 fn placed_last(messages: &[Message]) -> Placed
-    ensures { result ≡ Placed.Behind → 0 < length messages.now }
+    ensures { (result ≡ Placed.Behind) ↔ (0 < length messages.now) }
 {
     if messages.is_empty() {
         Placed::MayBeNext
@@ -179,15 +179,15 @@ impl Buffer {
     }
 
     /// Puts a message into its place by age, which is the last one unless a younger one stands there. Places that are
-    /// free stand before all messages, so that the last place is that of the last message. Tells whether it is known
-    /// that one before it arrives no later.
+    /// free stand before all messages, so that the last place is that of the last message. Tells whether it went
+    /// behind another one.
     #[inline(always)]
     pub fn put_by_age(&mut self, message: &Message) -> Placed
         requires room { length self.old.items < self.old.capacity }
         requires in_order { IsByAge self.old.items }
         ensures items { self.new.items ≡ insert_by_age self.old.items message.now }
         ensures capacity { self.new.capacity ≡ self.old.capacity }
-        ensures behind { result ≡ Placed.Behind → HasNoLater self.old.items message.now }
+        ensures behind { (result ≡ Placed.Behind) ↔ GoesBehind message.now self.old.items }
     {
         if is_before_last(&self.places, message) {
             self.put_among(message);

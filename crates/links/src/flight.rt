@@ -1,12 +1,12 @@
 //! The messages in flight.
 
-ghost use Rattle.std.specs.Prelude.{◌≡◌, ◌+◌, ◌<◌, ◌^◌, ◌≤◌, nat_lt, [], ◌∷◌, length, drop, slice_set, fold, ◌==◌, true, false, ◌↔◌, IsTrue, IsNone, IfNone, IfSome, IfOk, OnOk, OnErr, IsOkAnd};
+ghost use Rattle.std.specs.Prelude.{◌≡◌, ◌+◌, ◌<◌, ◌^◌, ◌≤◌, nat_lt, [], ◌∷◌, length, drop, slice_set, fold, ◌==◌, true, false, ◌↔◌, IsTrue, IsNone, IfSome, IfOk, OnOk, OnErr, IsOkAnd};
 ghost use Rattle.sim_base.specs.History.{insert_by_age};
 ghost use Rattle.sim_base.specs.declared.message.Unit.{Unit as MachineUnit};
 ghost use Rattle.std.specs.List.{list_all, list_any};
 ghost use Rattle.std.specs.List.Sorted.{IsPermutation};
 ghost use Rattle.links.specs.InFlight.{nothing_in_flight, with_sent, due_before, without_due, in_flight_to, first_arrival, NoneArrivesBefore, SomeAt};
-ghost use Rattle.links.specs.Buffers.{buffer_of, number_of_replies, in_buffer, due_in_buffer, without_due_in, replies_due, credits_due, contents, buffer_messages, buffer_messages_at, IsByAge, HasNoLater, HasNoLaterBeside, earlier_arrival, due_in, AreBuffers, HasRoom, HaveRoomForAll, AreNumbers, HasBufferNumbers, AreCounts, IsOneMore, HaveCountedRoom, CanTakeUp, HoldSame, HaveGained, JoinAlike, Grows};
+ghost use Rattle.links.specs.Buffers.{buffer_of, number_of_replies, in_buffer, due_in_buffer, without_due_in, replies_due, credits_due, contents, buffer_messages, buffer_messages_at, IsByAge, GoesBehind, GoesBehindInFlight, earlier_arrival, due_in, AreBuffers, HasRoom, HaveRoomForAll, AreNumbers, HasBufferNumbers, AreCounts, IsOneMore, HaveCountedRoom, CanTakeUp, HoldSame, HaveGained, JoinAlike, Grows};
 ghost use Rattle.links.specs.declared.buffers.Placed.TheVariants as Placed;
 
 use crate::buffers::{Buffer, Placed};
@@ -263,7 +263,7 @@ fn make_room_for(
 #[inline(always)]
 fn unless_behind(placed: Placed, number: usize) -> Option<usize>
     ensures number { IfSome result (λ n. n ≡ number) }
-    ensures behind { IsNone result → placed ≡ Placed.Behind }
+    ensures behind { IsNone result ↔ (placed ≡ Placed.Behind) }
 {
     match placed {
         Placed::MayBeNext => Some(number),
@@ -272,7 +272,7 @@ fn unless_behind(placed: Placed, number: usize) -> Option<usize>
 }
 
 /// Puts a message into the buffer that it goes to, for which room is made, and gives the number of that buffer; none,
-/// where one in it arrives no later. Where memory is refused, the same messages stand in the buffers as before.
+/// where it went behind another one. Where memory is refused, the same messages stand in the buffers as before.
 #[inline(always)]
 fn put_one(
     alloc: Global,
@@ -285,9 +285,8 @@ fn put_one(
     requires buffers { AreBuffers channels 0 (contents buffers.old.items) }
     ensures number { IfOk result (λ placed.
         IfSome placed (λ number. number ≡ buffer_of channels message.now.link)) }
-    ensures behind { IfOk result (λ placed. IfNone placed
-        (HasNoLater (buffer_messages_at buffers.old.items (buffer_of channels message.now.link))
-        message.now)) }
+    ensures behind { IfOk result (λ placed. IsNone placed ↔ GoesBehind message.now
+        (buffer_messages_at buffers.old.items (buffer_of channels message.now.link))) }
     ensures buffers { AreBuffers channels 0 (contents buffers.new.items) }
     ensures ok { OnOk result (HaveGained buffers.old.items buffers.new.items (message.now ∷ [])) }
     ensures err { OnErr result (HoldSame buffers.old.items buffers.new.items) }
@@ -467,14 +466,14 @@ impl Links {
         put_in_order(self.alloc, &self.numbers, self.channels, messages)
     }
 
-    /// Takes a message up, and gives the number of its buffer, which tells the unit that it goes to; none, where one
-    /// that is in flight in that buffer arrives no later. Where memory is refused, the links stay as they were.
+    /// Takes a message up, and gives the number of its buffer, which tells the unit that it goes to; none, where it
+    /// goes behind one that is in flight in that buffer, which arrives no later. Where memory is refused, the links stay as they were.
     #[inline(always)]
     pub fn put(&mut self, message: &Message) -> Result<Option<usize>, AllocError>
         ensures number { IfOk result (λ placed.
             IfSome placed (λ buffer. buffer ≡ buffer_of self.old.channels message.now.link)) }
         ensures behind { IfOk result (λ placed.
-            IfNone placed (HasNoLaterBeside self.old message.now)) }
+            IsNone placed ↔ GoesBehindInFlight message.now self.old) }
         ensures ok { OnOk result (self.new ≡ with_sent self.old (message.now ∷ [])) }
         ensures err { OnErr result (self.new ≡ self.old) }
     {

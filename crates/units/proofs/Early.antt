@@ -1,6 +1,6 @@
 -- Words that are no later than the arrivals of what is in flight.
-use Rattle.std.proofs.Common.{◌≡◌, ℕ, ◌+◌, ◌-◌, ◌*◌, ◌<◌, ◌≤◌, Bool, true, false, cond, eqb, ltb, leb, not, ◌&&◌, ◌||◌, List, [], ◌∷◌, length, get_or, take, refl, sym, ap, subst, ◌∙◌, inl, inr, arith}
-use Rattle.std.specs.Prelude.{filter, fold, All}
+use Rattle.std.proofs.Common.{◌≡◌, ℕ, ◌+◌, ◌-◌, ◌*◌, ◌<◌, ◌≤◌, Bool, true, false, cond, eqb, ltb, leb, not, ◌&&◌, ◌||◌, List, [], ◌∷◌, length, get_or, refl, sym, ap, subst, ◌∙◌, inl, inr, arith}
+use Rattle.std.specs.Prelude.{filter, All}
 use Rattle.std.specs.List.{AllByRecursion as Each}
 use Rattle.std.proofs.lemmas.Bool.{cases_Bool, cases_lt, cond-true, cond-false, and_parts, and_from, eqb-true, le-leb, lt-ltb, le-ltb, ltb-true, true≢false}
 use Rattle.std.proofs.lemmas.List.Elements.{All-from_recursion, recursion_from_All}
@@ -8,20 +8,23 @@ use Rattle.sim_base.specs.declared.config.Config.{Config}
 use Rattle.sim_base.specs.declared.message.Message.{Message}
 use Rattle.sim_base.specs.declared.message.Unit.{Unit as MachineUnit}
 use Rattle.sim_base.specs.declared.message.Unit.TheVariants.{Core, Channel}
-use Rattle.sim_base.specs.History.{is_unit, receiver_of, insert_by_age}
+use Rattle.sim_base.specs.History.{is_unit, receiver_of}
 use Rattle.sim_base.proofs.Arrived.{Each-puts, fold-puts}
 use Rattle.sim_base.proofs.Each.{Each-filter}
+use Rattle.sim_base.proofs.Lists.{filter-both}
 use Rattle.links.specs.InFlight.{InFlight, is_due, with_sent, arrives_before}
-use Rattle.links.specs.Buffers.{HasNoLaterBeside, buffer_to, buffer_of, is_due_in, goes_to, later_of}
+use Rattle.links.specs.Buffers.{GoesBehindInFlight, buffer_to, is_due_in, goes_to, later_of}
 use Rattle.links.proofs.Held.{channel_by_buffer, core_by_buffers}
+use Rattle.links.proofs.Steps.{behind-no_later}
 use Rattle.units.specs.Units.{unit_at, unit_count}
-use Rattle.units.specs.Flight.{among, goes_among}
+use Rattle.units.specs.Flight.{goes_among}
 use Rattle.units.specs.SpanLaws.Flight.{left_after}
 use Rattle.units.specs.Runs.{flight_at}
 use Rattle.units.specs.Wakes.{UnitWithWord, Waits, WaitAll, HoldsInbox, HoldInboxes, HaveRun, AreEarly, AreLowered, goes_to_place, links_after, unit_with_word_at, units_from}
 use Rattle.units.specs.declared.machine.Machine.{Machine}
 use Rattle.units.specs.declared.timed_unit.TimedUnit.{TimedUnit}
 use Rattle.units.proofs.OneByOne.{Reaches}
+use Rattle.units.proofs.SpanLaws.Jumps.{each-fails}
 use Rattle.units.proofs.SpanLaws.Silent.{none-part}
 use Rattle.units.proofs.Waiting.{due-flight}
 
@@ -57,15 +60,15 @@ some-passes p P (m ∷ ms) h l f = elim (cases_Bool (p m)) [
   | inr fails ↦ some-passes p P ms h.1 (subst (λ b. 0 < length (cond b (m ∷ filter p ms) (filter p ms))) fails l) f
 ]
 
--- where words are early, they are no later than a message beside one that arrives no later
-pub reaches-behind : (s : Config) (first : ℕ) (m : Message) (words : List ℕ) (links : InFlight) → first + length words ≤ unit_count s → links.channels ≡ s.channels → AreEarly s first words links → HasNoLaterBeside links m
+-- where words are early, they are no later than a message that goes behind one in flight
+pub reaches-behind : (s : Config) (first : ℕ) (m : Message) (words : List ℕ) (links : InFlight) → first + length words ≤ unit_count s → links.channels ≡ s.channels → AreEarly s first words links → GoesBehindInFlight m links
     → Reaches s first m words words
 reaches-behind s first m words links within channels early behind = record {
   count = refl;
   less = λ k l. omega arith;
   arrival = λ k l to.
       some-passes (is_due_in links.channels (buffer_to links.channels m) (m.arrival + 1)) (λ x. goes_to_place s x (first + k) ≡ true → get_or words k 0 ≤ x.arrival) links.messages
-      (recursion_from_All (λ (x : Message). goes_to_place s x (first + k) ≡ true → get_or words k 0 ≤ x.arrival) links.messages (early k l)) behind
+      (recursion_from_All (λ (x : Message). goes_to_place s x (first + k) ≡ true → get_or words k 0 ≤ x.arrival) links.messages (early k l)) no_later
       (λ x passes below.
       let parts = and_parts (goes_to links.channels (buffer_to links.channels m) x) (arrives_before (m.arrival + 1) x) passes in
       let same : buffer_to s.channels x ≡ buffer_to s.channels m =
@@ -75,6 +78,11 @@ reaches-behind s first m words links within channels early behind = record {
       omega (arith, word, sooner));
   since = λ cycle k l h a. h;
 }
+  where
+    no_later : 0 < length (filter (is_due_in links.channels (buffer_to links.channels m) (m.arrival + 1)) links.messages)
+    no_later =
+        subst (λ xs. 0 < length xs) (sym (filter-both (arrives_before (m.arrival + 1)) (goes_to links.channels (buffer_to links.channels m)) _ (λ x. refl) links.messages))
+        (behind-no_later m (filter (goes_to links.channels (buffer_to links.channels m)) links.messages) behind)
 
 -- words that are lowered to what was sent are early with it
 pub early-after : (s : Config) (first : ℕ) (sent : List Message) (old new : List ℕ) (links after : InFlight) → after ≡ with_sent links sent → AreEarly s first old links → AreLowered s first sent old new
@@ -87,17 +95,6 @@ early-after s first sent old new links after is early low k l =
     let more : Each P sent = recursion_from_All P sent (λ j d at to. low.arrivals k j d less at to) in
     All-from_recursion P after.messages
     (subst (Each P) (sym (ap (λ (f : InFlight). f.messages) is ∙ fold-puts links.messages sent)) (Each-puts P links.messages sent before more))
-
--- where none passes a test, each fails it
-each-fails : (p : Message → Bool) (ms : List Message) → filter p ms ≡ [] → Each (λ m. p m ≡ false) ms
-each-fails p [] none = tt
-each-fails p (m ∷ ms) none = elim (cases_Bool (p m)) [
-  | inl passes ↦ absurd (filled (ap (λ b. cond b (m ∷ filter p ms) (filter p ms)) (sym passes) ∙ none))
-  | inr fails ↦ (fails, each-fails p ms (ap (λ b. cond b (m ∷ filter p ms) (filter p ms)) (sym fails) ∙ none))
-]
-  where
-    filled : (m ∷ filter p ms) ≡ [] → ⊥
-    filled bad = cc
 
 each-both-fail : (channels here wake : ℕ) (u : MachineUnit) (ms : List Message) → Each (λ m. is_due channels u 0 here m ≡ false) ms → Each (λ m. is_due channels u here wake m ≡ false) ms
     → Each (λ m. is_unit (receiver_of channels m.link) u ≡ true → wake ≤ m.arrival) ms
@@ -116,7 +113,7 @@ each-both-fail channels here wake u (m ∷ ms) a b =
     late false is arrival a b = absurd (true≢false (sym is))
 
 -- the word of a unit that waits is no later than what is in flight to it, where the links hold its inbox
-pub waits-early : (machine : Machine) (here there until : ℕ) (u : MachineUnit) (unit_with_word : UnitWithWord) (links : InFlight) → HoldsInbox machine here there until u links → Waits machine u here there unit_with_word
+waits-early : (machine : Machine) (here there until : ℕ) (u : MachineUnit) (unit_with_word : UnitWithWord) (links : InFlight) → HoldsInbox machine here there until u links → Waits machine u here there unit_with_word
     → Each (λ m. is_unit (receiver_of machine.config.channels m.link) u ≡ true → unit_with_word.wake ≤ m.arrival) links.messages
 waits-early machine here there until u w links h waits =
     let none : filter (is_due machine.config.channels u here w.wake) links.messages ≡ [] =
@@ -124,7 +121,7 @@ waits-early machine here there until u w links h waits =
     each-both-fail machine.config.channels here w.wake u links.messages (each-fails _ links.messages h.overdue) (each-fails _ links.messages none)
 
 -- what units leave of some messages is among them
-pub left-each : (P : Message → Type 0) (channels from until : ℕ) (units : List MachineUnit) (ms : List Message) → Each P ms → Each P (left_after channels from until units ms)
+left-each : (P : Message → Type 0) (channels from until : ℕ) (units : List MachineUnit) (ms : List Message) → Each P ms → Each P (left_after channels from until units ms)
 left-each P channels from until [] ms h = h
 left-each P channels from until (u ∷ units) ms h = left-each P channels from until units (filter (λ m. not (is_due channels u from until m)) ms) (Each-filter P (λ m. not (is_due channels u from until m)) ms h)
 

@@ -6,9 +6,7 @@
 use Rattle.std.specs.Prelude.{ℕ, suc, ◌≤◌, Option, Some, None}
 use Rattle.sim_base.specs.declared.message.Unit.{Unit as MachineUnit}
 use Rattle.units.specs.SpanLaws.Quiet.{RestsAlone, IsSilent}
-use Rattle.units.specs.Parts.{IsPart}
 use Rattle.units.specs.declared.machine.Machine.{Machine}
-use Rattle.units.specs.declared.part.UnitState.{UnitState}
 
 -- if nothing arrived from `from` on, a unit would do nothing before `until`
 abbrev pub MayRest : Machine → ℕ → ℕ → MachineUnit → Type 0

@@ -30,7 +30,7 @@ use Rattle.links.specs.InFlight.{InFlight, is_due}
 use Rattle.units.specs.SpanLaws.Flight.{left_after}
 use Rattle.units.specs.SpanLaws.Mail.{mail_before, mail_in}
 use Rattle.units.specs.Flight.{fresh, among}
-use Rattle.units.specs.Parts.{IsPart, HasRunOnto}
+use Rattle.units.specs.Parts.{IsPart}
 use Rattle.links.specs.Buffers.{later_of}
 use Rattle.units.specs.Quiet.{SendsNothing}
 use Rattle.units.specs.Runs.{flight_at, sent_at}

@@ -77,7 +77,7 @@ turns-begin s traces now =
     }
 
 -- where none is left, none passes
-each-fails : (p : Message → Bool) (ms : List Message) → filter p ms ≡ [] → Each (λ (m : Message). p m ≡ false) ms
+pub each-fails : (p : Message → Bool) (ms : List Message) → filter p ms ≡ [] → Each (λ (m : Message). p m ≡ false) ms
 each-fails p [] h = tt
 each-fails p (m ∷ ms) h = go (p m) refl h (each-fails p ms)
   where

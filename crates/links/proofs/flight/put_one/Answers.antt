@@ -1,9 +1,8 @@
-use Rattle.std.proofs.Common.{◌≡◌, ℕ, ◌+◌, ◌<◌, [], Option, Some, None, length, get_or, refl, sym, ap, subst, ◌∙◌}
-use Rattle.std.specs.Prelude.{filter, IfNone, IsNone}
+use Rattle.std.proofs.Common.{◌≡◌, ◌↔◌, [], get_or, sym, ap, subst, ◌∙◌}
+use Rattle.std.specs.Prelude.{filter, IsNone}
 use Rattle.sim_base.specs.History.{insert_by_age, by_age}
-use Rattle.links.specs.InFlight.{arrives_before}
-use Rattle.links.specs.Buffers.{contents}
-use Rattle.links.proofs.Both.{due_is}
+use Rattle.links.specs.Buffers.{GoesBehind, contents, goes_to}
+use Rattle.links.proofs.Held.{all_held}
 use Rattle.links.proofs.Room.{TakesUp, items_at, in_order_at, buffers_more, message_more}
 use Rattle.links.proofs.flight.put_one.Goals as goal
 
@@ -22,23 +21,19 @@ returns-clause-ok c =
     message_more _ _ _ _ _ _ c.in_ok-make_room_at.ensures.room.exists c.index_mut.ensures.value up c.number_of-number.ensures.number (c.make_room_at.ensures.grows.buffers _ 0 c.requires.buffers)
     ∙ ap (λ ms. insert_by_age (by_age ms) c.args.message.now) c.make_room_at.ensures.grows.messages
 
-where_none : {T : Type 0} (o : Option ℕ) → (IsNone o → T) → IfNone o T
-where_none None f = f refl
-where_none (Some n) f = tt
-
--- what is due in a buffer that may have got more room is what was due in it
+-- a buffer that may have got more room holds what it held
 pub returns-clause-behind : goal.returns-clause-behind
 returns-clause-behind c =
     let ch = c.args.channels in
+    let n = c.number_of-number.result in
     let old = contents c.args.buffers.now.items in
     let grown = contents c.make_room_at.new.buffers.items in
-    let n = c.number_of-number.result in
-    let until = c.args.message.now.arrival + 1 in
-    let are = c.make_room_at.ensures.grows.buffers ch 0 c.requires.buffers in
-    let same : filter (arrives_before until) (get_or grown n []) ≡ filter (arrives_before until) (get_or old n []) =
-    sym (due_is ch n until _ grown are (ap (λ ms. record { channels = ch; messages = by_age ms }) (sym c.make_room_at.ensures.grows.messages)))
-    ∙ due_is ch n until _ old c.requires.buffers refl in
+    let same : get_or grown n [] ≡ get_or old n [] =
+    sym (all_held ch n grown (c.make_room_at.ensures.grows.buffers ch 0 c.requires.buffers))
+    ∙ ap (λ ms. filter (goes_to ch n) (by_age ms)) c.make_room_at.ensures.grows.messages
+    ∙ all_held ch n old c.requires.buffers in
     let here : get_or grown n [] ≡ c.index_mut.result.now.items = items_at n c.index_mut.result.now _ c.in_ok-make_room_at.ensures.room.exists c.index_mut.ensures.value in
-    where_none c.unless_behind.result (λ none.
-    subst (λ k. 0 < length (filter (arrives_before until) (get_or old k []))) c.number_of-number.ensures.number
-    (subst (λ xs. 0 < length xs) (ap (filter (arrives_before until)) (sym here) ∙ same) (c.put_by_age-placed.ensures.behind (c.unless_behind.ensures.behind none))))
+    let behind = c.put_by_age-placed.ensures.behind in
+    let none = c.unless_behind.ensures.behind in
+    subst (λ k. IsNone c.unless_behind.result ↔ GoesBehind c.args.message.now (get_or old k [])) c.number_of-number.ensures.number
+    (subst (λ ms. IsNone c.unless_behind.result ↔ GoesBehind c.args.message.now ms) (sym here ∙ same) (λ is. behind.0 (none.0 is), λ h. none.1 (behind.1 h)))

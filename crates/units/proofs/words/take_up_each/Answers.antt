@@ -1,8 +1,8 @@
 -- A message more is taken up, and the word of its unit is lowered, or was early.
-use Rattle.std.proofs.Common.{◌≡◌, ℕ, ◌+◌, ◌<◌, Option, Some, None, length, take, get_or, sym, ap, subst, ◌∙◌, arith}
-use Rattle.std.specs.Prelude.{IfSome, IfNone}
+use Rattle.std.proofs.Common.{◌≡◌, ℕ, ◌+◌, ◌<◌, Option, Some, None, refl, length, take, sym, ap, subst, ◌∙◌, arith}
+use Rattle.std.specs.Prelude.{IfSome, IsNone}
 use Rattle.links.specs.InFlight.{InFlight}
-use Rattle.units.specs.Wakes.{AreEarly, AreLowered}
+use Rattle.units.specs.Wakes.{AreLowered}
 use Rattle.units.proofs.OneByOne.{reaches, lowered-next, buffer-same, sent-next}
 use Rattle.units.proofs.Early.{early-after, reaches-behind}
 use Rattle.units.proofs.words.take_up_each.Goals as goal
@@ -12,8 +12,8 @@ use Rattle.units.proofs.words.take_up_each.Goals.{in-Some, in_default}
 there : (o : Option ℕ) (k : ℕ) (P : ℕ → Type 0) → o ≡ Some k → IfSome o P → P k
 there o k P is h = subst (λ x. IfSome x P) is h
 
-absent : (T : Type 0) (o : Option ℕ) → o ≡ None → IfNone o T → T
-absent T o is h = subst (λ x. IfNone x T) is h
+is-none : (o : Option ℕ) → o ≡ None → IsNone o
+is-none o is = subst IsNone (sym is) refl
 
 pub loop-message-preserved : goal.loop-message-preserved
 loop-message-preserved c =
@@ -47,7 +47,7 @@ loop-message-preserved c =
                 subst (AreLowered s first (take (n + 1) sent) old) (sym w.words-is)
                 (lowered-next s first n _ sent old at.words at.words less so_far
                 (reaches-behind s first _ at.words at.links (omega (arith, c.requires.within, so_far.count)) (channels ∙ c.requires.channels)
-                (early-after s first (take n sent) old at.words c.args.links.now at.links at.invariant.links early so_far) (absent _ c.in_ok-buffer.field-0 w.in_default.is put.behind)));
+                (early-after s first (take n sent) old at.words c.args.links.now at.links at.invariant.links early so_far) (put.behind.0 (is-none c.in_ok-buffer.field-0 w.in_default.is))));
             links = sent-next c.args.links.now at.links c.put.new.self n _ sent less at.invariant.links put.ok;
           }
     ]
