@@ -1,15 +1,15 @@
 -- Where the first entry of a full window waits, none retires and none issues.
-use Rattle.std.proofs.Common.{cond, eqb, zero, suc, [], ◌∷◌, ◌<◌, List, Some, ⊎_elim, Bool, true, false, ◌≡◌, ◌&&◌, ℕ, length, refl, ap, ltb, ◌-◌, ◌+◌, ◌≤◌, None, subst, add-zero, arith}
+use Rattle.std.proofs.Common.{cond, eqb, zero, suc, [], ◌∷◌, ◌<◌, List, Some, ⊎_elim, Bool, true, false, ◌≡◌, ◌&&◌, ℕ, length, refl, sym, ap, ◌∙◌, ltb, ◌-◌, ◌+◌, ◌≤◌, None, subst, add-zero, arith}
 use Rattle.std.specs.Prelude.{slice_get}
 use Rattle.sim_base.specs.History.{core_messages}
 use Rattle.std.specs.Prelude.{Option}
-use Rattle.std.proofs.lemmas.Bool.{cases_lt, ne_eqb, eq-eqb}
+use Rattle.std.proofs.lemmas.Bool.{cases_lt, ne_eqb, eq-eqb, and_from, lt-ltb}
 use Rattle.sim_base.specs.Windows.{is_memory_in, lacks_credit}
 use Rattle.sim_base.specs.declared.trace.Entry.{Entry}
 use Rattle.sim_base.specs.declared.trace.Stop.{Stop}
-use Rattle.sim_base.specs.declared.trace.Stop.TheVariants.{End, Window}
+use Rattle.sim_base.specs.declared.trace.Stop.TheVariants.{Credit, End, Window}
 use Rattle.core_window.specs.Causes.{first_undone, issue_count, cause_at}
-use Rattle.core_window.specs.Inside.{Does}
+use Rattle.core_window.specs.Inside.{Does, IsLike, StandsAt}
 use Rattle.core_window.specs.Rests.{idle_step, NeverActs}
 use Rattle.core_window.specs.Stands.{StandsFor}
 use Rattle.core_window.proofs.Resting.{at_rest}
@@ -55,6 +55,50 @@ stalled_cause-full a second_at some full =
     let not_width : eqb 0 a.config.width ≡ false = ne_eqb 0 a.config.width (λ e. omega arith) in
     let is_window : eqb (a.stats.issued - a.stats.retired) a.config.window ≡ true = eq-eqb (a.stats.issued - a.stats.retired) a.config.window full in
     rw (add-zero a.stats.issued, not_width, is_window) refl
+
+-- ---- where the next entry lacks a credit
+no_issue_short : (width window number retired_by_end first_at second_at : ℕ) → first_at ≤ number → 0 ≡ issue_count width window number retired_by_end first_at second_at true
+no_issue_short width window number retired_by_end first_at second_at l = omega arith
+
+short_cause : (width window len number retired_by_end second_at : ℕ) → 0 < width → number < len → number - retired_by_end < window → number < second_at
+    → cause_at width window len number retired_by_end second_at 0 ≡ Credit
+short_cause width window len number retired_by_end second_at some inside room before =
+    let not_end : eqb (number + 0) len ≡ false = ne_eqb (number + 0) len (λ e. omega (arith, e, inside)) in
+    let not_width : eqb 0 width ≡ false = ne_eqb 0 width (λ e. omega (arith, e, some)) in
+    let not_window : eqb (number + 0 - retired_by_end) window ≡ false = ne_eqb (number + 0 - retired_by_end) window (λ e. omega (arith, e, room)) in
+    let not_second : eqb (number + 0) second_at ≡ false = ne_eqb (number + 0) second_at (λ e. omega (arith, e, before)) in
+    rw (not_end, not_width, not_window, not_second) refl
+
+-- a core that lacks a credit for its next entry, and retires none, does nothing
+pub short-does : (a : CoreView) (first_at second_at : ℕ) (entry : Entry) → IsSeen a.trace a.stats.issued first_at second_at entry → first_undone a.stats.issued a.outstanding ≤ a.stats.retired
+    → first_at ≤ a.stats.issued → a.stats.issued < length a.trace → a.stats.issued - a.stats.retired < a.config.window
+    → ((v : CoreView) (s : Config) (core : ℕ) (trace : List Entry) (steps : List CoreStep) (mail : List Message) → IsLike a v → StandsAt s core trace steps mail v
+    → lacks_credit a.config core mail (core_messages s core trace steps) (length steps) (Some entry) ≡ true)
+    → Does a idle_step Credit None
+short-does a first_at second_at entry seen undone at inside room lacks v s core trace steps mail i h =
+    let retired_by_end = a.stats.retired + 0 in
+    let credit = λ (o : Option Entry). lacks_credit a.config core mail (core_messages s core trace steps) (length steps) o in
+    let full : Bool = ltb first_at (length a.trace) && lacks_credit a.config core mail (core_messages s core trace steps) (length steps) (slice_get a.trace first_at) in
+    let below : first_at < length a.trace = omega (arith, at, inside) in
+    let is_full : full ≡ true =
+    and_from (ltb first_at (length a.trace)) (credit (slice_get a.trace first_at)) (lt-ltb first_at (length a.trace) below) (ap credit (seen.is_at below) ∙ lacks v s core trace steps mail i h) in
+    let none : 0 ≡ issue_count a.config.width a.config.window a.stats.issued retired_by_end first_at second_at full =
+    subst (λ b. 0 ≡ issue_count a.config.width a.config.window a.stats.issued retired_by_end first_at second_at b) (sym is_full)
+    (no_issue_short a.config.width a.config.window a.stats.issued retired_by_end first_at second_at at) in
+    let cause : cause_at a.config.width a.config.window (length a.trace) a.stats.issued retired_by_end second_at 0 ≡ Credit =
+    short_cause a.config.width a.config.window (length a.trace) a.stats.issued retired_by_end second_at (omega (arith, a.config.core_in_range.width_in)) inside (omega (arith, room))
+    (omega (arith, (seen.ahead.second below).is_from, seen.ahead.first.is_from)) in
+    cycle_work-is s core trace steps mail a v 0 first_at second_at full 0 Credit None i h
+    (record {
+      retired = omega (arith, undone);
+      ahead = seen.ahead;
+      credit = refl;
+      last = λ may. subst
+          (λ why. IsLast a.config core a.trace mail (core_messages s core trace steps) (length steps) a.stats.issued retired_by_end first_at second_at full 0 why) cause
+          (is_last a.config core a.trace mail (core_messages s core trace steps) (length steps) a.stats.issued retired_by_end first_at second_at full may 0 none);
+      issues = λ k l b. absurd (omega arith);
+      at = tt;
+    })
 
 -- an entry is Plain, or it is none
 plain_here : (o : Option Entry) → (o ≡ None → ⊥) → is_memory_in o ≡ false → o ≡ Some Plain

@@ -1,5 +1,6 @@
 -- What a core does, from one state to another.
 --     HeadWaits view, IsFull view      the first entry of a core's window is not done; a core's window is full
+--     RestsForCredit view      a core does nothing, since it has no credit for its next entry
 --     StaysBelowFirst core n, StaysBelowSecond core n      n entries more do not go past the memory entries ahead
 --     DoesWork view work      what a core does in the next cycle
 --     IsFlowOf numbers outstanding flow      in each cycle of a flow a window has room for the width of entries
@@ -9,7 +10,7 @@
 --     with_credits view credits      a core with other credits
 --     TakesIn old message new      a core takes a message
 --     ActsNext view next      the first cycle in which a core acts
-use Rattle.std.specs.Prelude.{◌≡◌, ℕ, ◌+◌, ◌-◌, ◌<◌, ◌≤◌, List, [], ◌∷◌, ◌++◌, length, Option}
+use Rattle.std.specs.Prelude.{◌≡◌, ℕ, ◌+◌, ◌-◌, ◌<◌, ◌≤◌, List, [], ◌∷◌, ◌++◌, length, Option, None}
 use Rattle.sim_base.specs.declared.config.Config.{Config}
 use Rattle.sim_base.specs.declared.history.CoreStep.{CoreStep}
 use Rattle.sim_base.specs.declared.message.Message.{Message}
@@ -20,7 +21,7 @@ use Rattle.core_window.specs.Causes.{first_undone}
 use Rattle.core_window.specs.CoreViews.{view_of}
 use Rattle.core_window.specs.Fit.{MayCome}
 use Rattle.core_window.specs.Inside.{StandsAt, Advances, GoesOn, Does}
-use Rattle.core_window.specs.Rests.{IsNextAct}
+use Rattle.core_window.specs.Rests.{idle_step, IsNextAct}
 use Rattle.core_window.specs.Stands.{StandsFor}
 use Rattle.core_window.specs.Steady.{IsSteady, IsFlow}
 use Rattle.core_window.specs.Views.{CoreView}
@@ -37,6 +38,10 @@ HeadWaits v = first_undone v.stats.issued v.outstanding ≤ v.stats.retired
 -- a core's window is full: no entry issues until one retires
 abbrev pub IsFull : CoreView → Type 0
 IsFull v = v.config.window ≤ v.stats.issued - v.stats.retired
+
+-- a core does nothing until a message comes, since it has no credit for its next entry
+abbrev pub RestsForCredit : CoreView → Type 0
+RestsForCredit v = Does v idle_step stop.Credit None
 
 -- n entries more than a core issued do not go past the first of the memory entries ahead
 abbrev pub StaysBelowFirst : Core → ℕ → Type 0

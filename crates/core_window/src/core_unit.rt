@@ -110,7 +110,7 @@ fn all_credits(alloc: Global, config: &Config) -> Result<Vec<Credits>, AllocErro
 
 impl Core {
     ghost use Rattle.core_window.specs.CoreViews.{view_of};
-    ghost use Rattle.core_window.specs.Work.{HeadWaits, IsFull, StaysBelowFirst, StaysBelowSecond, HasMemoryAhead, DoesWork};
+    ghost use Rattle.core_window.specs.Work.{HeadWaits, IsFull, RestsForCredit, StaysBelowFirst, StaysBelowSecond, HasMemoryAhead, DoesWork};
     ghost use Rattle.core_window.specs.Work.{IsSteadyFlow, AdvancesBy, AdvancesTo, GoesOnTo, with_credits, TakesIn, ActsNext};
 
     /// What the core does in the next cycle.
@@ -300,6 +300,33 @@ impl Core {
         )
     }
 
+    /// Whether the first entry of the window waits for its reply, so that none retires.
+    #[inline(always)]
+    fn is_head_waiting(&self) -> bool
+        ensures { IsTrue result → HeadWaits (view_of self.now) }
+    {
+        match self.outstanding.as_slice() {
+            [read, ..] => read.entry <= self.stats.retired,
+            [] => false,
+        }
+    }
+
+    /// Whether the core does nothing until a message comes, since it has no credit for its next entry, where none
+    /// retires and the window has room.
+    #[inline(always)]
+    fn is_short_of_credit(&self) -> bool
+        requires stands { IsStanding (view_of self.now) }
+        requires waits { HeadWaits (view_of self.now) }
+        requires room { self.now.stats.issued - self.now.stats.retired < self.now.config.window }
+        ensures { IsTrue result → RestsForCredit (view_of self.now) }
+    {
+        let ahead = &self.ahead;
+        if self.stats.issued < ahead.first_at || ahead.second_at <= ahead.first_at {
+            return false;
+        }
+        is_without_credit(&self.credits, ahead)
+    }
+
     /// Goes on up to a cycle, where the first entry of its full window waits: it does nothing, and counts the cycles.
     fn rest(&mut self, until: Cycle)
         requires room { MayRest (view_of self.old) until }
@@ -389,8 +416,19 @@ impl Core {
         if until <= self.cycle {
             return Ok(());
         }
-        if self.is_stalled() {
+        if !self.is_head_waiting() {
+            return self.work_on(until, sent);
+        }
+        if self.is_full() {
             self.rest(until);
+            return Ok(());
+        }
+        if self.is_short_of_credit() {
+            let nothing = CoreStep {
+                retired: 0,
+                issued: 0,
+            };
+            self.repeat(nothing, Stop::Credit, until - self.cycle);
             return Ok(());
         }
         self.work_on(until, sent)
