@@ -467,7 +467,8 @@ impl Links {
     }
 
     /// Takes a message up, and gives the number of its buffer, which tells the unit that it goes to; none, where it
-    /// goes behind one that is in flight in that buffer, which arrives no later. Where memory is refused, the links stay as they were.
+    /// goes behind one that is in flight in that buffer, which arrives no later. Where memory is refused, the links
+    /// stay as they were.
     #[inline(always)]
     pub fn put(&mut self, message: &Message) -> Result<Option<usize>, AllocError>
         ensures number { IfOk result (λ placed.
