@@ -1,6 +1,6 @@
 //! A channel that is run alone over a span of cycles.
 
-ghost use Rattle.std.specs.Prelude.{◌≡◌, true, false, ℕ, ◌+◌, ◌-◌, ◌*◌, ◌<◌, ◌≤◌, ◌^◌, ◌==◌, take, take_while, List, [], length, Some, None, is_some, nat_le, IsTrue, IfOk, OnOk};
+ghost use Rattle.std.specs.Prelude.{◌≡◌, true, false, ℕ, ◌+◌, ◌-◌, ◌*◌, ◌/◌, max, ◌<◌, ◌≤◌, ◌^◌, ◌==◌, take, take_while, List, [], length, Some, None, is_some, nat_le, IsTrue, IfOk, OnOk};
 ghost use Rattle.sim_base.specs.Rules.{open_row};
 ghost use Rattle.sim_base.specs.Scheduling.{choice, due, queue_room};
 ghost use Rattle.sim_base.specs.declared.config.Config.{Config};
@@ -802,6 +802,15 @@ pub fn queue_room(config: &Config) -> usize
     usize::from(config.cores) * credits
 }
 
+/// How many requests are likely to wait in a channel at once, where all cores may have `room` of them on their way:
+/// twice its share of them, and all of them where there is no other channel. It is a matter of speed alone.
+fn likely_requests(config: &Config, room: usize) -> usize
+    requires { room ≤ 8192 }
+    ensures { result ≡ 2 * room / max 2 config.now.channels }
+{
+    2 * room / usize::from(config.channels.max(2))
+}
+
 /// A copy of a configuration, and a channel's queue before its first request.
 fn copy_and_queue(alloc: Global, config: &Config) -> Result<(Config, Queue), AllocError>
     ensures copy { IfOk result (λ parts. parts.0 ≡ config.now) }
@@ -810,7 +819,8 @@ fn copy_and_queue(alloc: Global, config: &Config) -> Result<(Config, Queue), All
 {
     let copy = config.copy(alloc)?;
     let room = queue_room(config);
-    let queue = Queue::with_room(alloc, room, config.write_high, config.write_low)?;
+    let likely = likely_requests(config, room);
+    let queue = Queue::with_room(alloc, room, likely, config.write_high, config.write_low)?;
     Ok((copy, queue))
 }
 

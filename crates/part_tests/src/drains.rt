@@ -33,7 +33,7 @@ fn write(entry: u64) -> Request
 #[test]
 #[tactic(auto, unfolding(queue::specs::Log::waiting))]
 fn drains_from_three_writes_down_to_one(rt: HostRuntime) -> Result<(), Fail> {
-    let mut queue = Queue::with_room(rt.alloc(), 8, 3, 1)?;
+    let mut queue = Queue::with_room(rt.alloc(), 8, 8, 3, 1)?;
     queue.arrive(write(0));
     queue.arrive(write(1));
     queue.decide_drain();

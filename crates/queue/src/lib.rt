@@ -64,10 +64,16 @@ impl Queue {
     ghost use Rattle.std.specs.Prelude.{IfSome};
     ghost use Rattle.queue.specs.Log.{waiting_requests, served_at, activated_at, waits_at, eligible_column, is_eligible_at, marks_once_served};
 
-    /// An empty queue in which `room` requests may wait, and which drains its writes from `high` of them down to `low`,
-    /// and never if `high` is 0. Only this call allocates memory.
+    /// An empty queue in which `room` requests may wait, seldom more than `likely` of them, and which drains its writes
+    /// from `high` of them down to `low`, and never if `high` is 0. Only this call allocates memory.
     #[tactic(auto, unfolding(crate::specs::Log::waiting))]
-    pub fn with_room(alloc: Global, room: usize, high: u32, low: u32) -> Result<Self, AllocError>
+    pub fn with_room(
+        alloc: Global,
+        room: usize,
+        likely: usize,
+        high: u32,
+        low: u32,
+    ) -> Result<Self, AllocError>
         requires room { room < 2 ^ 16 - 1 }
         ensures { IfOk result (λ queue. queue ≡ empty_queue room high low) }
     {
@@ -83,7 +89,7 @@ impl Queue {
             drains: false,
             waiting_count: 0,
             writes: 0,
-            log: RequestLog::with_places(alloc, places, room)?,
+            log: RequestLog::with_places(alloc, places, likely)?,
         })
     }
 

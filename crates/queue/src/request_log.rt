@@ -145,15 +145,15 @@ impl RequestLog {
     ghost use Rattle.queue.specs.Columns.{tag_column, NoneAsksForRow};
     ghost use Rattle.queue.specs.Chains.{IsNextAlike};
 
-    /// A log with no requests, and with `places` places for them, of which at most `room` wait at a time. Only this
-    /// call allocates memory.
-    pub fn with_places(alloc: Global, places: usize, room: usize) -> Result<Self, AllocError>
+    /// A log with no requests, and with `places` places for them, of which seldom more than `likely` wait
+    /// at a time. Only this call allocates memory.
+    pub fn with_places(alloc: Global, places: usize, likely: usize) -> Result<Self, AllocError>
         requires { places < 2 ^ 16 - 1 }
         ensures { IfOk result (λ log. log ≡ record { places = places; log = [] }) }
     {
-        let (lines, mask) = counters(alloc, room)?;
+        let (lines, mask) = counters(alloc, likely)?;
         let recent = vec![in alloc; 0; RECENT]?;
-        let (rows, row_mask) = counters(alloc, room.min(ROOM_OF_ROWS))?;
+        let (rows, row_mask) = counters(alloc, likely.min(ROOM_OF_ROWS))?;
         Ok(RequestLog {
             places,
             log: Vec::with_capacity(alloc, places)?,

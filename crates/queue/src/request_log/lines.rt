@@ -50,20 +50,20 @@ pub(crate) fn next_for_line(
     None
 }
 
-/// There are 16 counters for each request, or 4 above this number of requests, since few queues are ever nearly full.
+/// There are 16 counters for each request that is likely to wait, or 4 above this number of requests.
 const MANY: usize = 4_096;
 
-/// Counters that count nothing, for `room` requests, and the highest of them: a power of two of them, so that few
-/// requests share one.
-pub(crate) fn counters(alloc: Global, room: usize) -> Result<(Vec<u16>, usize), AllocError>
+/// Counters that count nothing, for `likely` requests at once, and the highest of them: a power of two of them, so that
+/// few requests share one, and not more than that, so that they stay in the caches.
+pub(crate) fn counters(alloc: Global, likely: usize) -> Result<(Vec<u16>, usize), AllocError>
     ensures masked { IfOk result (λ made. made.1 < length made.0.items) }
     ensures lines { IfOk result (λ made. AreCounted (counter_of_line made.1) made.0.items []) }
     ensures rows { IfOk result (λ made. AreCounted (counter_of_row made.1) made.0.items []) }
 {
-    let wanted = if room <= MANY {
-        room * 16
+    let wanted = if likely <= MANY {
+        likely * 16
     } else {
-        room.min(1 << 20) * 4
+        likely.min(1 << 20) * 4
     };
     let mut mask = 255;
     while mask < wanted {
